@@ -1,0 +1,6 @@
+pub mod Rows
+pub mod Decision
+pub mod Stability
+pub mod Contest
+pub mod Lent
+pub mod LoopLaws

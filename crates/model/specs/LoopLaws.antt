@@ -1,0 +1,389 @@
+-- Laws by which a loop over rows is proved. A loop goes from row 0 up, and its invariant speaks of the rows that are left,
+-- `rest i n`: the rows from i up to n. So a turn takes one row off the front, as the definitions of `Rows` do.
+use Prim.Native.Nat.{ℕ, zero, suc, _+_, _-_, _≤_, _<_, min, max, zero-le}
+use native.Mathlib.Nat.{sub-zero, not-suc-le-zero, le-refl}
+use native.Mathlib.Numerals.{add-one}
+use native.Mathlib.Omega.{arith}
+use mathlib.Core.Path.{_≡_, refl, sym, ap, _∙_}
+use mathlib.Core.Bool.{Bool, true, false, cond, _&&_, _||_, not, and-true, and-false, false≢true, true≢false}
+use mathlib.Core.List.{List, [], _∷_, map}
+use lib.Dec.{eqb, ltb, leb}
+use lib.ListN.{length, getD, set, length-set, length-map}
+use lib.Seq.{getD-set-same, getD-set-other, ext-getD}
+use borrow.Author.Count.{below-more}
+use borrow.Author.Tests.{ltb-false, ltb-true}
+use Rattle.model.specs.Rows.{keep, some, count, span, least, greatest, keepLeast, table}
+use Rattle.model.specs.Contest.{leastOr}
+use Rattle.model.specs.Lent.{on, rowsOf}
+
+-- by cases on a test, with its value
+pub by : {P : Type 0} (b : Bool) → (b ≡ true → P) → (b ≡ false → P) → P
+by true f g = f refl
+by false f g = g refl
+
+pub both : (a b : Bool) → (a && b) ≡ true → (a ≡ true) × (b ≡ true)
+both true b e = (refl, e)
+both false b e = absurd (false≢true e)
+
+-- the rows from i up to n
+abbrev pub rest : ℕ → ℕ → List ℕ
+rest i n = span i (n - i)
+
+pub rest-next : (i n : ℕ) → i < n → rest i n ≡ i ∷ rest (i + 1) n
+rest-next i n l =
+    let e : n - i ≡ suc (n - (i + 1)) = omega arith in
+    rw (e, add-one)
+
+pub rest-end : (i n : ℕ) → n ≤ i → rest i n ≡ []
+rest-end i n l =
+    let e : n - i ≡ 0 = omega arith in
+    rw e
+
+-- A loop at row i: what is asked, `goal`, is f of the rows from i up to n that pass a test.
+pub record Walk {A : Type 0} (goal : A) (f : List ℕ → A) (test : ℕ → Bool) (n i : ℕ) : Type 0 where
+  pub within : i ≤ n
+  pub left : goal ≡ f (keep test (rest i n))
+
+module _ {A : Type 0} {goal : A} {f : List ℕ → A} {test : ℕ → Bool} {n : ℕ} where
+  pub walk : goal ≡ f (keep test (span 0 n)) → Walk goal f test n 0
+  walk e = record { within = zero-le; left = rw sub-zero e }
+
+  module _ {i : ℕ} (w : Walk goal f test n i) where
+    pub walk-end : n ≤ i → goal ≡ f []
+    walk-end l = rw (rest-end i n l) at (w .left)
+
+    module _ {b : Bool} (l : i < n) (e : b ≡ test i) where
+      -- i does not pass
+      pub walk-off : b ≡ false → Walk goal f test n (i + 1)
+      walk-off h =
+          let off : test i ≡ false = sym e ∙ h in
+          record { within = omega arith; left = rw (rest-next i n l, off) at (w .left) }
+
+      -- i passes, and f of what is left with i is g of what is left
+      pub walk-on : {g : List ℕ → A} → b ≡ true → ((rows : List ℕ) → f (i ∷ rows) ≡ g rows) → Walk goal g test n (i + 1)
+      walk-on h step =
+          let on : test i ≡ true = sym e ∙ h in
+          record { within = omega arith; left = (rw (rest-next i n l, on) at (w .left)) ∙ step (keep test (rest (i + 1) n)) }
+
+      -- i passes, and the answer is had with no look at the others
+      pub walk-hit : b ≡ true → {a : A} → ((rows : List ℕ) → f (i ∷ rows) ≡ a) → goal ≡ a
+      walk-hit h step =
+          let on : test i ≡ true = sym e ∙ h in
+          (rw (rest-next i n l, on) at (w .left)) ∙ step (keep test (rest (i + 1) n))
+
+-- ---- a test on kept rows is one test
+module _ (kept test : ℕ → Bool) where
+  pub some-keep : (rows : List ℕ) → some test (keep kept rows) ≡ some (λ q. true) (keep (λ q. kept q && test q) rows)
+  some-keep [] = refl
+  some-keep (q ∷ rows) =
+      let ih = some-keep rows in
+      by (kept q) (λ e. by (test q) (λ d. simp (e, d)) (λ d. simp (e, d, ih))) (λ e. simp (e, ih))
+
+-- ---- a search: no kept row before i passes
+pub record Seek (test : ℕ → Bool) (kept : List Bool) (i : ℕ) : Type 0 where
+  pub at : Walk (some test (rowsOf kept)) (some (λ q. true)) (λ q. on kept q && test q) (length kept) i
+
+module _ {test : ℕ → Bool} {kept : List Bool} where
+  pub seek : Seek test kept 0
+  seek = record { at = walk (some-keep (on kept) test (span 0 (length kept))) }
+
+  module _ {i : ℕ} (s : Seek test kept i) where
+    pub seek-end : length kept ≤ i → false ≡ some test (rowsOf kept)
+    seek-end l = sym (walk-end (s .at) l)
+
+    module _ {b : Bool} (l : i < length kept) (e : b ≡ (on kept i && test i)) where
+      pub seek-off : b ≡ false → Seek test kept (i + 1)
+      seek-off h = record { at = walk-off (s .at) l e h }
+
+      pub seek-hit : b ≡ true → true ≡ some test (rowsOf kept)
+      seek-hit h = sym (walk-hit (s .at) l e h (λ rows. refl))
+
+-- ---- tests on the rows below n
+module _ (t u : ℕ → Bool) where
+  keep-same-from : (from n : ℕ) → ((k : ℕ) → k < from + n → t k ≡ u k) → keep t (span from n) ≡ keep u (span from n)
+  keep-same-from from zero h = refl
+  keep-same-from from (suc n) h =
+      let e : t from ≡ u from = h from (omega arith) in
+      let ih = keep-same-from (suc from) n (λ k l. h k (omega arith)) in
+      simp (e, ih)
+
+  pub keep-same : (n : ℕ) → ((k : ℕ) → k < n → t k ≡ u k) → keep t (span 0 n) ≡ keep u (span 0 n)
+  keep-same n h = keep-same-from 0 n (λ k l. h k (omega arith))
+
+  pub keep-keep : (rows : List ℕ) → keep t (keep u rows) ≡ keep (λ q. u q && t q) rows
+  keep-keep [] = refl
+  keep-keep (q ∷ rows) =
+      let ih = keep-keep rows in
+      by (u q) (λ e. simp (e, ih)) (λ e. simp (e, ih))
+
+-- ---- a loop that stores f k at each k below n, and has done so below i
+pub record Stored {A : Type 0} (d : A) (f : ℕ → A) (n : ℕ) (xs₀ : List A) (i : ℕ) (xs : List A) : Type 0 where
+  pub within : i ≤ n
+  pub long : length xs ≡ n
+  pub done : (k : ℕ) → k < i → getD xs k d ≡ f k
+  pub ahead : (k : ℕ) → i ≤ k → getD xs k d ≡ getD xs₀ k d
+
+module _ {A : Type 0} {d : A} {f : ℕ → A} {n : ℕ} {xs₀ : List A} where
+  pub stored : length xs₀ ≡ n → Stored d f n xs₀ 0 xs₀
+  stored e = record { within = zero-le; long = e; done = λ k l. absurd (not-suc-le-zero l); ahead = λ k l. refl }
+
+  module _ {i : ℕ} {xs : List A} (s : Stored d f n xs₀ i xs) where
+    pub stored-next : {v : A} → i < n → v ≡ f i → Stored d f n xs₀ (i + 1) (set xs i v)
+    stored-next {v} l e =
+        let g = s .long in
+        record {
+          within = omega arith;
+          long = length-set xs i v ∙ s .long;
+          done = below-more (λ k. getD (set xs i v) k d ≡ f k) i (λ k m. getD-set-other xs i k v d (omega arith) ∙ s .done k m) (getD-set-same xs i v d (omega arith) ∙ e);
+          ahead = λ k m. getD-set-other xs i k v d (omega arith) ∙ s .ahead k (omega arith);
+        }
+
+    pub stored-skip : i < n → getD xs₀ i d ≡ f i → Stored d f n xs₀ (i + 1) xs
+    stored-skip l e = record {
+      within = omega arith;
+      long = s .long;
+      done = below-more (λ k. getD xs k d ≡ f k) i (s .done) (s .ahead i (omega arith) ∙ e);
+      ahead = λ k m. s .ahead k (omega arith);
+    }
+
+-- ---- a loop that stores which of the kept rows pass a test, into other flags
+pub record Sift (test : ℕ → Bool) (kept : List Bool) (i : ℕ) (out : List Bool) : Type 0 where
+  pub within : i ≤ length kept
+  pub long : length out ≡ length kept
+  pub done : (k : ℕ) → k < i → on out k ≡ (on kept k && test k)
+
+module _ {test : ℕ → Bool} {kept out : List Bool} where
+  pub sift : length out ≡ length kept → Sift test kept 0 out
+  sift e = record { within = zero-le; long = e; done = λ k l. absurd (not-suc-le-zero l) }
+
+  module _ {i : ℕ} (s : Sift test kept i out) where
+    pub sift-next : {v : Bool} → i < length kept → v ≡ (on kept i && test i) → Sift test kept (i + 1) (set out i v)
+    sift-next {v} l e = record {
+      within = omega arith;
+      long = length-set out i v ∙ s .long;
+      done = below-more (λ k. on (set out i v) k ≡ (on kept k && test k)) i (λ k m. getD-set-other out i k v false (omega arith) ∙ s .done k m) (getD-set-same out i v false (omega arith) ∙ e);
+    }
+
+    pub sift-end : length kept ≤ i → rowsOf out ≡ keep test (rowsOf kept)
+    sift-end l =
+        rw (s .long, keep-keep test (on kept) (span 0 (length kept)), keep-same (on out) (λ q. on kept q && test q) (length kept) (λ k m. s .done k (omega arith)))
+
+-- ---- the same where the test is that no other row beats the row: by a search for one that does, in the loop
+pub record Cull (beats : ℕ → ℕ → Bool) (others kept : List Bool) (i : ℕ) (out : List Bool) : Type 0 where
+  pub at : Sift (λ q. not (some (λ p. beats p q) (rowsOf others))) kept i out
+
+module _ {beats : ℕ → ℕ → Bool} {others kept out : List Bool} where
+  pub cull : length out ≡ length kept → Cull beats others kept 0 out
+  cull e = record { at = sift e }
+
+  module _ {i : ℕ} (s : Cull beats others kept i out) where
+    pub cull-off : i < length kept → on kept i ≡ false → Cull beats others kept (i + 1) (set out i false)
+    cull-off l e = record { at = sift-next (s .at) l (rw e) }
+
+    pub cull-beaten : i < length kept → true ≡ some (λ p. beats p i) (rowsOf others) → Cull beats others kept (i + 1) (set out i false)
+    cull-beaten l e = record { at = sift-next (s .at) l (rw (← e) (sym (and-false (on kept i)))) }
+
+    pub cull-unbeaten : i < length kept → on kept i ≡ true → false ≡ some (λ p. beats p i) (rowsOf others) → Cull beats others kept (i + 1) (set out i true)
+    cull-unbeaten l o e = record { at = sift-next (s .at) l (rw (← e, o)) }
+
+    pub cull-stays : i < length kept → false ≡ some (λ p. beats p i) (rowsOf others) → Cull beats others kept (i + 1) (set out i (on kept i))
+    cull-stays l e = record { at = sift-next (s .at) l (rw (← e) (sym (and-true (on kept i)))) }
+
+    pub cull-end : length kept ≤ i → rowsOf out ≡ keep (λ q. not (some (λ p. beats p q) (rowsOf others))) (rowsOf kept)
+    cull-end l = sift-end (s .at) l
+
+-- ---- the same in place
+pub record Sieve (test : ℕ → Bool) (kept₀ : List Bool) (i : ℕ) (kept : List Bool) : Type 0 where
+  pub at : Stored false (λ q. on kept₀ q && test q) (length kept₀) kept₀ i kept
+
+module _ {test : ℕ → Bool} {kept₀ : List Bool} where
+  pub sieve : Sieve test kept₀ 0 kept₀
+  sieve = record { at = stored refl }
+
+  module _ {i : ℕ} {kept : List Bool} (s : Sieve test kept₀ i kept) where
+    pub sieve-next : {v : Bool} → i < length kept₀ → v ≡ (on kept i && test i) → Sieve test kept₀ (i + 1) (set kept i v)
+    sieve-next l e = record { at = stored-next (s .at) l (rw (s .at .ahead i (omega arith)) at e) }
+
+    pub sieve-long : length kept ≡ length kept₀
+    sieve-long = s .at .long
+
+    pub sieve-end : length kept₀ ≤ i → rowsOf kept ≡ keep test (rowsOf kept₀)
+    sieve-end l =
+        rw (s .at .long, keep-keep test (on kept₀) (span 0 (length kept₀)), keep-same (on kept) (λ q. on kept₀ q && test q) (length kept₀) (λ k m. s .at .done k (omega arith)))
+
+-- ---- the least key
+least-le : (past : ℕ) (key : ℕ → ℕ) (rows : List ℕ) → leastOr past key rows ≤ past
+least-le past key [] = le-refl past
+least-le past key (q ∷ rows) =
+    let ih = least-le past key rows in
+    omega arith
+
+least-past : (a past : ℕ) (key : ℕ → ℕ) (rows : List ℕ) → a ≤ past → min a (leastOr past key rows) ≡ leastOr a key rows
+least-past a past key [] l = omega arith
+least-past a past key (q ∷ rows) l =
+    let ih = least-past a past key rows l in
+    omega arith
+
+-- the least key of the rows that pass a test is had from `low`, the least before i, and the rows from i on
+pub record Lowest (past : ℕ) (key : ℕ → ℕ) (test : ℕ → Bool) (n i low : ℕ) : Type 0 where
+  pub at : Walk (leastOr past key (keep test (span 0 n))) (leastOr low key) test n i
+
+module _ {past : ℕ} {key : ℕ → ℕ} {test : ℕ → Bool} {n : ℕ} where
+  pub lowest : Lowest past key test n 0 past
+  lowest = record { at = walk refl }
+
+  module _ {i low : ℕ} (s : Lowest past key test n i low) where
+    pub lowest-end : n ≤ i → low ≡ leastOr past key (keep test (span 0 n))
+    lowest-end l = sym (walk-end (s .at) l)
+
+    module _ {b : Bool} (l : i < n) (e : b ≡ (test i && ltb (key i) low)) where
+      pub lowest-off : b ≡ false → Lowest past key test n (i + 1) low
+      lowest-off h = record {
+        at = by (test i)
+            (λ o. let m : low ≤ key i = ltb-false (key i) low (rw o at (sym e ∙ h)) in
+            walk-on (s .at) l refl o (λ rows. let f = least-le low key rows in omega arith))
+            (λ o. walk-off (s .at) l refl o);
+      }
+
+      pub lowest-on : {low′ : ℕ} → b ≡ true → low′ ≡ key i → Lowest past key test n (i + 1) low′
+      lowest-on h k =
+          let m = both (test i) (ltb (key i) low) (sym e ∙ h) in
+          let d = ltb-true (key i) low (m .1) in
+          record { at = walk-on (s .at) l refl (m .0) (λ rows. rw k (least-past (key i) low key rows (omega arith))) }
+
+-- the least key as `Rows` has it, where no key is above `past`
+module _ (past : ℕ) (key : ℕ → ℕ) (bound : (q : ℕ) → key q ≤ past) where
+  least-is : (q : ℕ) (rows : List ℕ) → least key (q ∷ rows) ≡ leastOr past key (q ∷ rows)
+  least-is q [] = let b = bound q in omega arith
+  least-is q (p ∷ rows) = ap (min (key q)) (least-is p rows)
+
+  pub keep-least : (rows : List ℕ) → keepLeast key rows ≡ keep (λ q. eqb (key q) (leastOr past key rows)) rows
+  keep-least [] = refl
+  keep-least (q ∷ rows) = rw (least-is q rows)
+
+-- ---- a count: so many kept rows before i pass
+module _ (kept test : ℕ → Bool) where
+  count-keep : (rows : List ℕ) → count test (keep kept rows) ≡ length (keep (λ q. kept q && test q) rows)
+  count-keep [] = refl
+  count-keep (q ∷ rows) =
+      let ih = count-keep rows in
+      by (kept q) (λ e. by (test q) (λ d. simp (e, d, ih)) (λ d. simp (e, d, ih))) (λ e. simp (e, ih))
+
+pub record Tally (test : ℕ → Bool) (kept : List Bool) (i sum : ℕ) : Type 0 where
+  pub at : Walk (count test (rowsOf kept)) (λ rows. sum + length rows) (λ q. on kept q && test q) (length kept) i
+  pub few : sum ≤ i
+
+module _ {test : ℕ → Bool} {kept : List Bool} where
+  pub tally : Tally test kept 0 0
+  tally = record { at = walk (rw (count-keep (on kept) test (span 0 (length kept))) (omega arith)); few = zero-le }
+
+  module _ {i sum : ℕ} (s : Tally test kept i sum) where
+    pub tally-end : length kept ≤ i → sum ≡ count test (rowsOf kept)
+    tally-end l = let e = walk-end (s .at) l in omega arith
+
+    module _ {b : Bool} (l : i < length kept) (e : b ≡ (on kept i && test i)) where
+      pub tally-off : b ≡ false → Tally test kept (i + 1) sum
+      tally-off h = let f = s .few in record { at = walk-off (s .at) l e h; few = omega arith }
+
+      pub tally-on : b ≡ true → Tally test kept (i + 1) (sum + 1)
+      tally-on h = let f = s .few in record { at = walk-on (s .at) l e h (λ rows. omega arith); few = omega arith }
+
+-- ---- a list that a loop has stored whole
+getD-table : {A : Type 0} (f : ℕ → A) (d : A) (from n k : ℕ) → k < n → getD (map f (span from n)) k d ≡ f (from + k)
+getD-table f d from zero k l = absurd (not-suc-le-zero l)
+getD-table f d from (suc n) zero l = ap f (omega arith)
+getD-table f d from (suc n) (suc k) l = getD-table f d (suc from) n k (omega arith) ∙ ap f (omega arith)
+
+length-span : (from n : ℕ) → length (span from n) ≡ n
+length-span from zero = refl
+length-span from (suc n) = ap suc (length-span (suc from) n)
+
+pub table-length : {A : Type 0} (n : ℕ) (f : ℕ → A) → length (table n f) ≡ n
+table-length n f = length-map (span 0 n) f ∙ length-span 0 n
+
+pub table-at : {A : Type 0} (f : ℕ → A) (d : A) (n k : ℕ) → k < n → getD (table n f) k d ≡ f k
+table-at f d n k l = getD-table f d 0 n k l ∙ ap f (omega arith)
+
+pub stored-end : {A : Type 0} {d : A} {f : ℕ → A} {n : ℕ} {xs₀ xs : List A} {i : ℕ} → Stored d f n xs₀ i xs → n ≤ i → xs ≡ table n f
+stored-end {d} {f} {n} {xs} s l =
+    let e = table-length n f in
+    let g = s .long in
+    ext-getD d xs (table n f) (omega arith) (λ k m. s .done k (omega arith) ∙ sym (table-at f d n k (omega arith)))
+
+pub table-same : {A : Type 0} (f g : ℕ → A) (n : ℕ) → ((k : ℕ) → k < n → f k ≡ g k) → table n f ≡ table n g
+table-same f g n h = go 0 n (λ k l. h k (omega arith))
+  where
+    go : (from m : ℕ) → ((k : ℕ) → k < from + m → f k ≡ g k) → map f (span from m) ≡ map g (span from m)
+    go from zero h = refl
+    go from (suc m) h = rw (h from (omega arith), go (suc from) m (λ k l. h k (omega arith)))
+
+keep-all : (rows : List ℕ) → keep (λ q. true) rows ≡ rows
+keep-all [] = refl
+keep-all (q ∷ rows) = ap (λ (l : List ℕ). q ∷ l) (keep-all rows)
+
+-- flags that are all set
+pub all-rows : {n : ℕ} {xs₀ xs : List Bool} {i : ℕ} → Stored false (λ k. true) n xs₀ i xs → n ≤ i → rowsOf xs ≡ span 0 n
+all-rows {n} {xs} s l = rw (s .long, keep-same (on xs) (λ k. true) n (λ k m. s .done k (omega arith))) (keep-all (span 0 n))
+
+-- ---- a loop that brings each member up to date, in place, and says whether any moved
+pub record Moved (f : ℕ → ℕ) (n : ℕ) (xs₀ : List ℕ) (i : ℕ) (xs : List ℕ) (moved : Bool) : Type 0 where
+  pub at : Stored 0 f n xs₀ i xs
+  pub still : moved ≡ false → xs ≡ xs₀
+
+module _ {f : ℕ → ℕ} {n : ℕ} {xs₀ : List ℕ} where
+  pub moved : length xs₀ ≡ n → Moved f n xs₀ 0 xs₀ false
+  moved e = record { at = stored e; still = λ _. refl }
+
+  module _ {i : ℕ} {xs : List ℕ} {b : Bool} (s : Moved f n xs₀ i xs b) where
+    pub moved-none : {v : ℕ} → i < n → v ≡ f i → v ≡ getD xs i 0 → Moved f n xs₀ (i + 1) xs b
+    moved-none l e g = record { at = stored-skip (s .at) l (sym (s .at .ahead i (omega arith)) ∙ sym g ∙ e); still = s .still }
+
+    pub moved-one : {v : ℕ} → i < n → v ≡ f i → Moved f n xs₀ (i + 1) (set xs i v) true
+    moved-one l e = record { at = stored-next (s .at) l e; still = λ t. absurd (true≢false t) }
+
+    pub moved-end : n ≤ i → (xs ≡ table n f) × (b ≡ false → xs ≡ xs₀)
+    moved-end l = (stored-end (s .at) l, s .still)
+
+-- ---- the greatest key of the rows that pass a test
+pub record Highest (key : ℕ → ℕ) (test : ℕ → Bool) (n i high : ℕ) : Type 0 where
+  pub at : Walk (greatest key (keep test (span 0 n))) (λ rows. max high (greatest key rows)) test n i
+
+module _ {key : ℕ → ℕ} {test : ℕ → Bool} {n : ℕ} where
+  pub highest : Highest key test n 0 0
+  highest = record { at = walk (omega arith) }
+
+  module _ {i high : ℕ} (s : Highest key test n i high) where
+    pub highest-end : n ≤ i → high ≡ greatest key (keep test (span 0 n))
+    highest-end l = let e = walk-end (s .at) l in omega arith
+
+    module _ {b : Bool} (l : i < n) (e : b ≡ (test i && ltb high (key i))) where
+      pub highest-off : b ≡ false → Highest key test n (i + 1) high
+      highest-off h = record {
+        at = by (test i)
+            (λ o. let m : key i ≤ high = ltb-false high (key i) (rw o at (sym e ∙ h)) in walk-on (s .at) l refl o (λ rows. omega arith))
+            (λ o. walk-off (s .at) l refl o);
+      }
+
+      pub highest-on : {high′ : ℕ} → b ≡ true → high′ ≡ key i → Highest key test n (i + 1) high′
+      highest-on h k =
+          let m = both (test i) (ltb high (key i)) (sym e ∙ h) in
+          let d = ltb-true high (key i) (m .1) in
+          record { at = walk-on (s .at) l refl (m .0) (λ rows. omega arith) }
+
+-- ---- the first kept row
+pub record First (past : ℕ) (kept : List Bool) (i : ℕ) : Type 0 where
+  pub at : Walk (getD (rowsOf kept) 0 past) (λ rows. getD rows 0 past) (on kept) (length kept) i
+
+module _ {past : ℕ} {kept : List Bool} where
+  pub first : First past kept 0
+  first = record { at = walk refl }
+
+  module _ {i : ℕ} (s : First past kept i) where
+    pub first-off : i < length kept → on kept i ≡ false → First past kept (i + 1)
+    first-off l o = record { at = walk-off (s .at) l refl o }
+
+    pub first-hit : i < length kept → on kept i ≡ true → i ≡ getD (rowsOf kept) 0 past
+    first-hit l o = sym (walk-hit (s .at) l refl o (λ rows. refl))
+
+    pub first-end : length kept ≤ i → past ≡ getD (rowsOf kept) 0 past
+    first-end l = sym (walk-end (s .at) l)

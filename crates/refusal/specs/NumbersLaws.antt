@@ -1,0 +1,46 @@
+-- A number tells its refusal: no two refusals share one, and each lies in 1 to 12.
+use Prim.Native.Nat.{ℕ, _≤_}
+use mathlib.Core.Path.{_≡_, refl, sym, ap, _∙_}
+use mathlib.Core.List.{List, [], _∷_}
+use lib.ListN.{getD}
+use lib.Dec.{lit≤}
+use Rattle.refusal.specs.declared.Refusal.{Refusal}
+use Rattle.refusal.specs.declared.Refusal.the-variants.{Room, Cut, Kind, Place, Field, Order, Twin, Full, Count, Tail, Table, NoPrefix}
+use Rattle.refusal.specs.Numbers.{numberOf}
+
+-- the refusals in the order of their numbers, from 1
+abbrev inOrder : List Refusal
+inOrder = Room ∷ Cut ∷ Kind ∷ Place ∷ Field ∷ Order ∷ Twin ∷ Full ∷ Count ∷ Tail ∷ Table ∷ NoPrefix ∷ []
+
+listed : (a : Refusal) → getD (Room ∷ inOrder) (numberOf a) Room ≡ a
+listed Room = refl
+listed Cut = refl
+listed Kind = refl
+listed Place = refl
+listed Field = refl
+listed Order = refl
+listed Twin = refl
+listed Full = refl
+listed Count = refl
+listed Tail = refl
+listed Table = refl
+listed NoPrefix = refl
+
+-- two refusals with the same number are one
+pub number-tells : (a b : Refusal) → numberOf a ≡ numberOf b → a ≡ b
+number-tells a b e = sym (listed a) ∙ ap (λ (n : ℕ). getD (Room ∷ inOrder) n Room) e ∙ listed b
+
+-- every number lies in 1 to 12
+pub number-range : (a : Refusal) → (1 ≤ numberOf a) × (numberOf a ≤ 12)
+number-range Room = (lit≤ tt, lit≤ tt)
+number-range Cut = (lit≤ tt, lit≤ tt)
+number-range Kind = (lit≤ tt, lit≤ tt)
+number-range Place = (lit≤ tt, lit≤ tt)
+number-range Field = (lit≤ tt, lit≤ tt)
+number-range Order = (lit≤ tt, lit≤ tt)
+number-range Twin = (lit≤ tt, lit≤ tt)
+number-range Full = (lit≤ tt, lit≤ tt)
+number-range Count = (lit≤ tt, lit≤ tt)
+number-range Tail = (lit≤ tt, lit≤ tt)
+number-range Table = (lit≤ tt, lit≤ tt)
+number-range NoPrefix = (lit≤ tt, lit≤ tt)
