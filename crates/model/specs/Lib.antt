@@ -1,6 +1,17 @@
 pub mod Rows
 pub mod Decision
 pub mod Stability
+pub mod Order
 pub mod Contest
+pub mod Cases
+pub mod RowLaws
+pub mod SoundLaws
+pub mod CasesLaws
+pub mod DecisionLaws
+pub mod StabilityLaws
+pub mod ContestLaws
+pub mod EarlyLateLaws
+pub mod OrderLaws
+pub mod Theorems
 pub mod Lent
 pub mod LoopLaws
