@@ -12,6 +12,7 @@ pub mod StabilityLaws
 pub mod ContestLaws
 pub mod EarlyLateLaws
 pub mod OrderLaws
+pub mod MeshLaws
 pub mod Theorems
 pub mod Lent
 pub mod LoopLaws
