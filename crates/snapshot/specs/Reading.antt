@@ -1,0 +1,178 @@
+-- Reading a snapshot, section by section of the grammar. The sections stand from the last to the first, since each goes on to the next.
+-- `at` is the place of the next record, `bs` are the bytes from there on.
+use Prim.Native.Nat.{ℕ, zero, suc, _+_}
+use mathlib.Core.Bool.{Bool, true, false, not}
+use mathlib.Core.List.{List, [], _∷_, _++_}
+use lib.ListN.{length, getD, drop}
+use lib.Dec.{leb, ltb, eqb}
+use Rattle.refusal.specs.declared.Refusal.{Refusal}
+use Rattle.refusal.specs.declared.Refusal.the-variants.{Cut, Kind, Place, Full, Tail}
+use Rattle.model.specs.Decision.{Route}
+use Rattle.snapshot.specs.Limits.{mostPrefixes, mostInPrefix, mostRoutes}
+use Rattle.snapshot.specs.Records.{Form, countForm, routerForm, distanceForm, prefixForm, routeForm, endForm, size, known, kind, values}
+use Rattle.snapshot.specs.Format.{Prefix, Snapshot, Pair, pairs, routesIn, records, Check, _else_, judged, countChecks, routerChecks, distanceChecks, prefixChecks, routeChecks, endChecks}
+
+-- what reading answers: the snapshot, or a refusal and its place
+pub data Answer : Type 0 where
+  accepted : Snapshot → Answer
+  refused : Refusal → ℕ → Answer
+
+abbrev pub isNil : List ℕ → Bool
+isNil [] = true
+isNil (b ∷ bs) = false
+
+-- the checks of every record, in their order: CUT for the kind byte, KIND, PLACE, FULL, CUT for the body, those of the values.
+-- `extra` are those of PLACE and FULL that only some kinds have, `checks` those of the values
+unfoldable pub recordChecks : Form → List Check → (List ℕ → List Check) → List ℕ → List Check
+recordChecks f extra checks bs =
+    (not (isNil bs) else Cut)
+    ∷ (known (kind bs) else Kind)
+    ∷ (eqb (kind bs) (f .kind) else Place)
+    ∷ extra
+    ++ ((leb (size f) (length bs) else Cut)
+    ∷ checks (values f bs))
+
+-- go on, unless a check of the record at a place fails
+abbrev pub unless : List Check → ℕ → (Unit {0} → Answer) → Answer
+unless checks at go = judged checks (λ r. refused r at) go
+
+-- one of two ways
+unfoldable pub either : Bool → (Unit {0} → Answer) → (Unit {0} → Answer) → Answer
+either true yea nay = yea tt
+either false yea nay = nay tt
+
+-- ---- prefixes and their routes, up to the end record; `s` is what was read so far
+
+-- the routes of the latest prefix
+abbrev pub openRoutes : List Prefix → List Route
+openRoutes [] = []
+openRoutes (p ∷ []) = p .routes
+openRoutes (p ∷ q ∷ ps) = openRoutes (q ∷ ps)
+
+-- one more route for the latest prefix
+abbrev pub addRoute : List Prefix → Route → List Prefix
+addRoute [] r = []
+addRoute (p ∷ []) r = record { address = p .address; bits = p .bits; routes = p .routes ++ (r ∷ []) } ∷ []
+addRoute (p ∷ q ∷ ps) r = p ∷ addRoute (q ∷ ps) r
+
+abbrev pub withPrefixes : Snapshot → List Prefix → Snapshot
+withPrefixes s ps = record { ids = s .ids; distances = s .distances; prefixes = ps }
+
+-- the prefix, and the route, of a record's values
+abbrev pub prefixOf : List ℕ → Prefix
+prefixOf v = record { address = getD v 0 0; bits = getD v 1 0; routes = [] }
+
+abbrev pub routeOf : List ℕ → Route
+routeOf v = record {
+  router = getD v 0 0;
+  asn = getD v 1 0;
+  preference = getD v 2 0;
+  path = getD v 3 0;
+  origin = getD v 4 0;
+  mark = getD v 5 0;
+  med = getD v 6 0;
+  nid = getD v 7 0;
+  peer = getD v 8 0;
+}
+
+-- FULL: a 65th prefix
+abbrev pub prefixExtra : Snapshot → List Check
+prefixExtra s = (ltb (length (s .prefixes)) mostPrefixes else Full) ∷ []
+
+abbrev pub prefixValues : Snapshot → List ℕ → List Check
+prefixValues s v = prefixChecks (s .prefixes) (getD v 0 0) (getD v 1 0)
+
+unfoldable pub prefixRecord : Snapshot → List ℕ → List Check
+prefixRecord s = recordChecks prefixForm (prefixExtra s) (prefixValues s)
+
+-- PLACE: a route stands behind a prefix. FULL: a prefix's 257th route, or a 1,025th route in all
+abbrev pub routeExtra : Snapshot → List Check
+routeExtra s =
+    (not (eqb (length (s .prefixes)) 0) else Place)
+    ∷ (ltb (length (openRoutes (s .prefixes))) mostInPrefix else Full)
+    ∷ (ltb (routesIn (s .prefixes)) mostRoutes else Full)
+    ∷ []
+
+abbrev pub routeValues : Snapshot → List ℕ → List Check
+routeValues s v = routeChecks (length (s .ids)) (openRoutes (s .prefixes)) (routeOf v)
+
+unfoldable pub routeRecord : Snapshot → List ℕ → List Check
+routeRecord s = recordChecks routeForm (routeExtra s) (routeValues s)
+
+abbrev pub endValues : ℕ → List ℕ → List Check
+endValues before v = endChecks before (getD v 0 0)
+
+unfoldable pub endRecord : ℕ → List ℕ → List Check
+endRecord before = recordChecks endForm [] (endValues before)
+
+-- after the end record: nothing
+abbrev pub tail : Snapshot → ℕ → List ℕ → Answer
+tail s at [] = accepted s
+tail s at (b ∷ bs) = refused Tail at
+
+-- one record of these: a prefix, a route, or else it must be the end; and what to do after a prefix, or after a route
+unfoldable pub item : Snapshot → ℕ → List ℕ → (Unit {0} → Answer) → (Unit {0} → Answer) → Answer
+item s at bs afterPrefix afterRoute =
+    either (eqb (kind bs) (prefixForm .kind)) (λ _. unless (prefixRecord s bs) at afterPrefix) λ _.
+    either (eqb (kind bs) (routeForm .kind)) (λ _. unless (routeRecord s bs) at afterRoute) λ _.
+    unless (endRecord (records s) bs) at λ _. tail s (at + size endForm) (drop (size endForm) bs)
+
+-- what was read so far, with the prefix, or the route, of the record at the front
+abbrev pub withPrefix : Snapshot → List ℕ → Snapshot
+withPrefix s bs = withPrefixes s (s .prefixes ++ (prefixOf (values prefixForm bs) ∷ []))
+
+abbrev pub withRoute : Snapshot → List ℕ → Snapshot
+withRoute s bs = withPrefixes s (addRoute (s .prefixes) (routeOf (values routeForm bs)))
+
+-- there are no more items than bytes: the count ends the recursion, and `items-step` of SectionsLaws.antt is the equation to go by
+unfoldable pub itemsWithin : ℕ → Snapshot → ℕ → List ℕ → Answer
+itemsWithin zero s at bs = refused Cut at
+itemsWithin (suc count) s at bs =
+    item s at bs
+    (λ _. itemsWithin count (withPrefix s bs) (at + size prefixForm) (drop (size prefixForm) bs))
+    (λ _. itemsWithin count (withRoute s bs) (at + size routeForm) (drop (size routeForm) bs))
+
+unfoldable pub items : Snapshot → ℕ → List ℕ → Answer
+items s at bs = itemsWithin (length bs) s at bs
+
+-- ---- the distances: `due` are the pairs yet to come, `ds` the distances read so far
+
+abbrev pub distanceValues : ℕ → Pair → List ℕ → List Check
+distanceValues n due v = distanceChecks n due (getD v 0 0) (getD v 1 0) (getD v 2 0)
+
+unfoldable pub distanceRecord : ℕ → Pair → List ℕ → List Check
+distanceRecord n due = recordChecks distanceForm [] (distanceValues n due)
+
+unfoldable pub distances : List Pair → List ℕ → List ℕ → ℕ → List ℕ → Answer
+distances [] ids ds at bs = items (record { ids = ids; distances = ds; prefixes = [] }) at bs
+distances (p ∷ due) ids ds at bs =
+    unless (distanceRecord (length ids) p bs) at λ _.
+    distances due ids (ds ++ (getD (values distanceForm bs) 2 0 ∷ [])) (at + size distanceForm) (drop (size distanceForm) bs)
+
+-- ---- the routers: `left` are yet to come, `ids` are the ids read so far
+
+abbrev pub routerValues : ℕ → List ℕ → List ℕ → List Check
+routerValues n ids v = routerChecks n ids (getD v 0 0) (getD v 1 0)
+
+unfoldable pub routerRecord : ℕ → List ℕ → List ℕ → List Check
+routerRecord n ids = recordChecks routerForm [] (routerValues n ids)
+
+unfoldable pub routers : ℕ → ℕ → List ℕ → ℕ → List ℕ → Answer
+routers n zero ids at bs = distances (pairs (length ids)) ids [] at bs
+routers n (suc left) ids at bs =
+    unless (routerRecord n ids bs) at λ _.
+    routers n left (ids ++ (getD (values routerForm bs) 1 0 ∷ [])) (at + size routerForm) (drop (size routerForm) bs)
+
+-- ---- the whole
+
+abbrev pub countValues : List ℕ → List Check
+countValues v = countChecks (getD v 0 0)
+
+unfoldable pub countRecord : List ℕ → List Check
+countRecord = recordChecks countForm [] countValues
+
+-- one kind 1; n of kind 2; n(n-1) of kind 3; any number of prefixes with their routes; one kind 6; then nothing
+unfoldable pub reading : List ℕ → Answer
+reading bs =
+    unless (countRecord bs) 0 λ _.
+    let n = getD (values countForm bs) 0 0 in routers n n [] (size countForm) (drop (size countForm) bs)

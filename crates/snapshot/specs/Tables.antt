@@ -1,0 +1,120 @@
+-- The lent tables: what each has room for, and what reading a snapshot leaves in them.
+use Prim.Native.Nat.{ℕ, _*_, _/_, _%_, _+_}
+use mathlib.Core.Path.{_≡_}
+use mathlib.Core.Bool.{Bool, cond, _&&_}
+use mathlib.Core.List.{List, [], _∷_, _++_, map}
+use lib.ListN.{length, getD}
+use lib.Dec.{ltb}
+use lib.Seq.{sets}
+use Rattle.model.specs.Rows.{table}
+use Rattle.model.specs.Decision.{Route, Mesh, meshOf}
+use Rattle.snapshot.specs.declared.Counts.{Counts}
+use Rattle.snapshot.specs.Limits.{mostRouters, stride, roomDistances, mostPrefixes, mostRoutes}
+use Rattle.snapshot.specs.Format.{Prefix, Snapshot, routesIn, distance}
+
+-- a column for each field of a route
+pub record Columns : Type 0 where
+  pub router : List ℕ
+  pub asn : List ℕ
+  pub preference : List ℕ
+  pub path : List ℕ
+  pub origin : List ℕ
+  pub mark : List ℕ
+  pub med : List ℕ
+  pub nid : List ℕ
+  pub peer : List ℕ
+
+-- ids, distances, a column for each field of a prefix, one with its number of routes, and the routes' columns
+pub record Tables : Type 0 where
+  pub ids : List ℕ
+  pub distances : List ℕ
+  pub address : List ℕ
+  pub bits : List ℕ
+  pub routes : List ℕ
+  pub rows : Columns
+
+-- the columns, and the tables, of these lists
+abbrev pub columns : List ℕ → List ℕ → List ℕ → List ℕ → List ℕ → List ℕ → List ℕ → List ℕ → List ℕ → Columns
+columns router asn preference path origin mark med nid peer =
+    record { router = router; asn = asn; preference = preference; path = path; origin = origin; mark = mark; med = med; nid = nid; peer = peer }
+
+abbrev pub tables : List ℕ → List ℕ → List ℕ → List ℕ → List ℕ → Columns → Tables
+tables ids distances address bits routes rows =
+    record { ids = ids; distances = distances; address = address; bits = bits; routes = routes; rows = rows }
+
+-- ROOM: which tables are shorter than their limit
+abbrev pub shortColumns : Columns → List Bool
+shortColumns c =
+    ltb (length (c .router)) mostRoutes
+    ∷ ltb (length (c .asn)) mostRoutes
+    ∷ ltb (length (c .preference)) mostRoutes
+    ∷ ltb (length (c .path)) mostRoutes
+    ∷ ltb (length (c .origin)) mostRoutes
+    ∷ ltb (length (c .mark)) mostRoutes
+    ∷ ltb (length (c .med)) mostRoutes
+    ∷ ltb (length (c .nid)) mostRoutes
+    ∷ ltb (length (c .peer)) mostRoutes
+    ∷ []
+
+abbrev pub short : Tables → List Bool
+short t =
+    ltb (length (t .ids)) mostRouters
+    ∷ ltb (length (t .distances)) roomDistances
+    ∷ ltb (length (t .address)) mostPrefixes
+    ∷ ltb (length (t .bits)) mostPrefixes
+    ∷ ltb (length (t .routes)) mostPrefixes
+    ∷ shortColumns (t .rows)
+
+-- the columns with these routes from a row on
+abbrev pub putRoutes : Columns → ℕ → List Route → Columns
+putRoutes c at rs = record {
+  router = sets (c .router) at (map (λ r. r .router) rs);
+  asn = sets (c .asn) at (map (λ r. r .asn) rs);
+  preference = sets (c .preference) at (map (λ r. r .preference) rs);
+  path = sets (c .path) at (map (λ r. r .path) rs);
+  origin = sets (c .origin) at (map (λ r. r .origin) rs);
+  mark = sets (c .mark) at (map (λ r. r .mark) rs);
+  med = sets (c .med) at (map (λ r. r .med) rs);
+  nid = sets (c .nid) at (map (λ r. r .nid) rs);
+  peer = sets (c .peer) at (map (λ r. r .peer) rs);
+}
+
+-- the distances with from and to below n are used
+abbrev pub used : ℕ → ℕ → Bool
+used n k = ltb (k / stride) n && ltb (k % stride) n
+
+-- a table of distances whose used entries hold a snapshot's: from times the stride, plus to; equal pairs hold 0
+abbrev pub putDistances : Snapshot → List ℕ → List ℕ
+putDistances s ds =
+    table (length ds) (λ k. cond (used (length (s .ids)) k) (distance s (k / stride) (k % stride)) (getD ds k 0))
+
+-- the routes of all prefixes, prefix after prefix
+abbrev pub allRoutes : List Prefix → List Route
+allRoutes [] = []
+allRoutes (p ∷ ps) = p .routes ++ allRoutes ps
+
+-- what reading a snapshot leaves in tables: the used rows hold it, all other entries are as before
+abbrev pub filled : Snapshot → Tables → Tables
+filled s t = record {
+  ids = sets (t .ids) 0 (s .ids);
+  distances = putDistances s (t .distances);
+  address = sets (t .address) 0 (map (λ p. p .address) (s .prefixes));
+  bits = sets (t .bits) 0 (map (λ p. p .bits) (s .prefixes));
+  routes = sets (t .routes) 0 (map (λ p. length (p .routes)) (s .prefixes));
+  rows = putRoutes (t .rows) 0 (allRoutes (s .prefixes));
+}
+
+-- the counts of routers, prefixes and routes
+abbrev pub countsOf : Snapshot → Counts
+countsOf s = record { routers = length (s .ids); prefixes = length (s .prefixes); routes = routesIn (s .prefixes) }
+
+-- counts and tables hold a snapshot: the counts are its, and to fill it in would change nothing
+abbrev pub Held : Counts → Tables → Snapshot → Type 0
+Held counts t s = (counts ≡ countsOf s) × (filled s t ≡ t)
+
+-- the routes of the prefix of a number, and what that prefix is decided on
+abbrev pub routesOf : Snapshot → ℕ → List Route
+routesOf s p = getD (map (λ q. q .routes) (s .prefixes)) p []
+
+abbrev pub mesh : Snapshot → ℕ → Mesh
+mesh s p = meshOf (s .ids) (distance s) (routesOf s p)

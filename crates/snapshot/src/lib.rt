@@ -1,0 +1,103 @@
+// The snapshot: its definitions and theorems (open specs/Theorems.antt first), its limits, and the tests of its ranges, which
+// reading, the judging of tables and edits share.
+ghost use mathlib.Core.Path.{_≡_};
+ghost use mathlib.Core.Bool.{not};
+ghost use Rattle.snapshot.specs.Ranges.{anyOf, countTests, idTests, distanceTests, prefixTests, routeTests, rises};
+ghost use Rattle.snapshot.specs.Plain.{routeIs};
+
+// The limits, with the names of specs/Limits.antt.
+pub const MOST_ROUTERS: u32 = 64;
+
+pub const STRIDE: usize = 64;
+
+pub const ROOM_DISTANCES: usize = 4096;
+
+pub const FARTHEST: u32 = 16777215;
+
+pub const MOST_PREFIXES: u32 = 64;
+
+pub const MOST_BITS: u32 = 32;
+
+pub const MOST_IN_PREFIX: u32 = 256;
+
+pub const MOST_ROUTES: u32 = 1024;
+
+pub const LAST_ASN: u32 = 65534;
+
+pub const LONGEST_PATH: u32 = 65535;
+
+pub const LAST_ORIGIN: u32 = 2;
+
+// How many of each the tables hold.
+pub struct Counts {
+    pub routers: u32,
+    pub prefixes: u32,
+    pub routes: u32,
+}
+
+// A route: its router, neighbour AS, local preference, path length, origin, MED mark, MED, neighbour id and peer address.
+pub struct Route {
+    pub router: u32,
+    pub asn: u32,
+    pub preference: u32,
+    pub path: u32,
+    pub origin: u32,
+    pub mark: u32,
+    pub med: u32,
+    pub nid: u32,
+    pub peer: u32,
+}
+
+// Whether a number of routers is outside its range.
+pub fn count_bad(n: u32) -> bool
+    ensures { λ b. ⌜ b ≡ anyOf (countTests n) ⌝ }
+{
+    (n == 0) | (MOST_ROUTERS < n)
+}
+
+// Whether a router id is outside its range.
+pub fn id_bad(id: u32) -> bool
+    ensures { λ b. ⌜ b ≡ anyOf (idTests id) ⌝ }
+{
+    id == 0
+}
+
+// Whether a distance is outside its range.
+pub fn distance_bad(distance: u32) -> bool
+    ensures { λ b. ⌜ b ≡ anyOf (distanceTests distance) ⌝ }
+{
+    FARTHEST < distance
+}
+
+// Whether a prefix length is outside its range, or an address bit is set beyond it.
+pub fn prefix_bad(address: u32, bits: u32) -> bool
+    ensures { λ b. ⌜ b ≡ anyOf (prefixTests address bits) ⌝ }
+{
+    if MOST_BITS < bits {
+        return true;
+    }
+    (address as u64) % (1u64 << (MOST_BITS - bits)) != 0
+}
+
+// Whether a field of a route is outside its range, where there are so many routers.
+pub fn route_bad(routers: u32, r: Route) -> bool
+    ensures { λ b. ⌜ b ≡ anyOf (routeTests routers (routeIs r)) ⌝ }
+{
+    (routers <= r.router)
+        | (r.asn == 0)
+        | (LAST_ASN < r.asn)
+        | (r.path == 0)
+        | (LONGEST_PATH < r.path)
+        | (LAST_ORIGIN < r.origin)
+        | (1 < r.mark)
+        | ((r.mark == 0) & (r.med != 0))
+        | (r.nid == 0)
+        | (r.peer == 0)
+}
+
+// Whether (c, d) does not rise above (a, b), which stands before it: prefixes by address, then length; routes by router, then peer.
+pub fn late(a: u32, b: u32, c: u32, d: u32) -> bool
+    ensures { λ r. ⌜ r ≡ not (rises a b c d) ⌝ }
+{
+    !((a < c) | ((a == c) & (b < d)))
+}
