@@ -3,4 +3,5 @@ pub mod Decision
 pub mod Stability
 pub mod Contest
 pub mod Lent
+pub mod Columns
 pub mod LoopLaws
