@@ -5,7 +5,8 @@ use mathlib.Core.Path.{_≡_}
 use mathlib.Core.List.{List, []}
 use lib.ListN.{length}
 use Rattle.model.specs.Rows.{column}
-use Rattle.model.specs.Decision.{Mesh}
+use Rattle.model.specs.Decision.{Mesh, choice}
+use Rattle.model.specs.Stability.{available}
 
 -- the most routers; also the stride of the table of distances
 abbrev pub mostRouters : ℕ
@@ -67,6 +68,10 @@ lentMesh routers ids distances t = record {
 -- the mesh of columns alone, for what has nothing to do with ids and distances
 abbrev pub routesMesh : ℕ → Columns → Mesh
 routesMesh routers t = lentMesh routers [] [] t
+
+-- what r chooses of what is available to it where each router holds what `held` says
+abbrev pub choiceOf : ℕ → List ℕ → List ℕ → Columns → List ℕ → ℕ → ℕ
+choiceOf routers ids distances t held r = let M = lentMesh routers ids distances t in choice M r (available M held r)
 
 -- columns of one length, within the limits, and every row of a known router
 pub record Fits (routers : ℕ) (t : Columns) : Type 0 where

@@ -5,3 +5,4 @@ pub mod Contest
 pub mod Lent
 pub mod Columns
 pub mod LoopLaws
+pub mod ColumnLaws

@@ -321,9 +321,12 @@ keep-all : (rows : List ℕ) → keep (λ q. true) rows ≡ rows
 keep-all [] = refl
 keep-all (q ∷ rows) = ap (λ (l : List ℕ). q ∷ l) (keep-all rows)
 
--- flags that are all set
+-- flags that a loop has stored whole
+pub stored-rows : {f : ℕ → Bool} {n : ℕ} {xs₀ xs : List Bool} {i : ℕ} → Stored false f n xs₀ i xs → n ≤ i → rowsOf xs ≡ keep f (span 0 n)
+stored-rows {f} {n} {xs} s l = rw (s .long) (keep-same (on xs) f n (λ k m. s .done k (omega arith)))
+
 pub all-rows : {n : ℕ} {xs₀ xs : List Bool} {i : ℕ} → Stored false (λ k. true) n xs₀ i xs → n ≤ i → rowsOf xs ≡ span 0 n
-all-rows {n} {xs} s l = rw (s .long, keep-same (on xs) (λ k. true) n (λ k m. s .done k (omega arith))) (keep-all (span 0 n))
+all-rows {n} s l = stored-rows s l ∙ keep-all (span 0 n)
 
 -- ---- a loop that brings each member up to date, in place, and says whether any moved
 pub record Moved (f : ℕ → ℕ) (n : ℕ) (xs₀ : List ℕ) (i : ℕ) (xs : List ℕ) (moved : Bool) : Type 0 where
