@@ -4,5 +4,7 @@ pub mod Stability
 pub mod Contest
 pub mod Lent
 pub mod Columns
+pub mod Arrangement
 pub mod LoopLaws
 pub mod ColumnLaws
+pub mod ArrangementLaws
