@@ -15,4 +15,8 @@ pub mod OrderLaws
 pub mod MeshLaws
 pub mod Theorems
 pub mod Lent
+pub mod Columns
+pub mod Arrangement
 pub mod LoopLaws
+pub mod ColumnLaws
+pub mod ArrangementLaws

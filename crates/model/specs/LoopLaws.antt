@@ -11,8 +11,8 @@ use lib.Dec.{eqb, ltb, leb}
 use lib.ListN.{length, getD, set, length-set, length-map}
 use lib.Seq.{getD-set-same, getD-set-other, ext-getD}
 use borrow.Author.Count.{below-more}
-use borrow.Author.Tests.{ltb-false, ltb-true}
-use Rattle.model.specs.Rows.{keep, some, count, span, least, greatest, keepLeast, table}
+use borrow.Author.Tests.{ltb-false, ltb-true, eqb-true, eqb-false}
+use Rattle.model.specs.Rows.{keep, some, count, span, least, greatest, keepLeast, table, column}
 use Rattle.model.specs.Contest.{leastOr}
 use Rattle.model.specs.Lent.{on, rowsOf}
 
@@ -251,6 +251,44 @@ module _ {past : ℕ} {key : ℕ → ℕ} {test : ℕ → Bool} {n : ℕ} where
           let d = ltb-true (key i) low (m .1) in
           record { at = walk-on (s .at) l refl (m .0) (λ rows. rw k (least-past (key i) low key rows (omega arith))) }
 
+-- a table of least keys, one for each bucket: each row that passes a test counts in the bucket it belongs to
+pub record Buckets (bucket key : ℕ → ℕ) (test : ℕ → Bool) (n : ℕ) (low₀ : List ℕ) (i : ℕ) (low : List ℕ) : Type 0 where
+  pub within : i ≤ n
+  pub long : length low ≡ length low₀
+  pub at : (k : ℕ) → Lowest (column low₀ k) key (λ q. test q && eqb (bucket q) k) n i (column low k)
+
+module _ {bucket key : ℕ → ℕ} {test : ℕ → Bool} {n : ℕ} {low₀ : List ℕ} where
+  pub buckets : Buckets bucket key test n low₀ 0 low₀
+  buckets = record { within = zero-le; long = refl; at = λ k. lowest }
+
+  module _ {i : ℕ} {low : List ℕ} (s : Buckets bucket key test n low₀ i low) where
+    -- i is in another bucket
+    elsewhere : (k : ℕ) → i < n → eqb (bucket i) k ≡ false → Lowest (column low₀ k) key (λ q. test q && eqb (bucket q) k) n (i + 1) (column low k)
+    elsewhere k l e = lowest-off (s .at k) l refl (rw (e, and-false (test i)))
+
+    module _ {b : Bool} (l : i < n) (e : b ≡ (test i && ltb (key i) (column low (bucket i)))) where
+      pub buckets-off : b ≡ false → Buckets bucket key test n low₀ (i + 1) low
+      buckets-off h = record {
+        within = omega arith;
+        long = s .long;
+        at = λ k. by (eqb (bucket i) k)
+            (λ same. lowest-off (s .at k) l refl (rw (same, and-true (test i), ← eqb-true (bucket i) k same) (sym e ∙ h)))
+            (elsewhere k l);
+      }
+
+      pub buckets-on : {v : ℕ} → b ≡ true → bucket i < length low → v ≡ key i → Buckets bucket key test n low₀ (i + 1) (set low (bucket i) v)
+      buckets-on {v} h m d = record {
+        within = omega arith;
+        long = length-set low (bucket i) v ∙ s .long;
+        at = λ k. by (eqb (bucket i) k)
+            (λ same. let f = eqb-true (bucket i) k same in
+            lowest-on (s .at k) l refl (rw (same, and-true (test i), ← f) (sym e ∙ h)) ((rw (← f) (getD-set-same low (bucket i) v 0 m)) ∙ d))
+            (λ other. rw (getD-set-other low (bucket i) k v 0 (λ f. eqb-false (bucket i) k other (sym f))) (elsewhere k l other));
+      }
+
+    pub buckets-end : n ≤ i → (k : ℕ) → column low k ≡ leastOr (column low₀ k) key (keep (λ q. test q && eqb (bucket q) k) (span 0 n))
+    buckets-end l k = lowest-end (s .at k) l
+
 -- the least key as `Rows` has it, where no key is above `past`
 module _ (past : ℕ) (key : ℕ → ℕ) (bound : (q : ℕ) → key q ≤ past) where
   least-is : (q : ℕ) (rows : List ℕ) → least key (q ∷ rows) ≡ leastOr past key (q ∷ rows)
@@ -321,9 +359,12 @@ keep-all : (rows : List ℕ) → keep (λ q. true) rows ≡ rows
 keep-all [] = refl
 keep-all (q ∷ rows) = ap (λ (l : List ℕ). q ∷ l) (keep-all rows)
 
--- flags that are all set
+-- flags that a loop has stored whole
+pub stored-rows : {f : ℕ → Bool} {n : ℕ} {xs₀ xs : List Bool} {i : ℕ} → Stored false f n xs₀ i xs → n ≤ i → rowsOf xs ≡ keep f (span 0 n)
+stored-rows {f} {n} {xs} s l = rw (s .long) (keep-same (on xs) f n (λ k m. s .done k (omega arith)))
+
 pub all-rows : {n : ℕ} {xs₀ xs : List Bool} {i : ℕ} → Stored false (λ k. true) n xs₀ i xs → n ≤ i → rowsOf xs ≡ span 0 n
-all-rows {n} {xs} s l = rw (s .long, keep-same (on xs) (λ k. true) n (λ k m. s .done k (omega arith))) (keep-all (span 0 n))
+all-rows {n} s l = stored-rows s l ∙ keep-all (span 0 n)
 
 -- ---- a loop that brings each member up to date, in place, and says whether any moved
 pub record Moved (f : ℕ → ℕ) (n : ℕ) (xs₀ : List ℕ) (i : ℕ) (xs : List ℕ) (moved : Bool) : Type 0 where

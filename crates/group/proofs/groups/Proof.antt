@@ -1,0 +1,29 @@
+-- `group::groups` meets its contract. The groups before q are stored; a group is no later than its row, so it fits. Assumes nothing.
+use Prim.Native.Nat.{_-_}
+use native.Mathlib.Omega.{arith}
+use lib.ListN.{length}
+use denote.Ref.{now}
+use borrow.Author.Needs.{needs}
+use Rattle.model.specs.Rows.{column}
+use Rattle.model.specs.Arrangement.{groupBy}
+use Rattle.model.specs.ArrangementLaws.{group-le}
+use Rattle.model.specs.LoopLaws.{Stored, stored, stored-next, stored-end}
+use Rattle.group.proofs.groups.Statement.{statement}
+use Rattle.group.proofs.groups.Tie as tie
+
+abbrev Inv-loop : tie.InvT-loop
+Inv-loop a b group₀ q₀ q-end group q = Stored 0 (groupBy (column a) (column b)) (length a) group₀ q group
+
+abbrev μ-loop : tie.MeasureT-loop
+μ-loop a b group₀ q₀ q-end group q = length a - q
+
+cast : tie.Need-cast-group Inv-loop μ-loop
+cast c =
+    let start : tie.Start Inv-loop μ-loop = search needs in
+    let at : tie.At-loop Inv-loop μ-loop = search needs in
+    let found : tie.After-group-of Inv-loop μ-loop = search needs in
+    omega (arith, found .group-of .ensures, group-le (column (now (start .args .a))) (column (now (start .args .b))) (at .loop .q))
+
+pub groups-spec : {M : Type 1} → statement M
+groups-spec =
+    tie.close (tie.spec Inv-loop μ-loop (λ c. search (stored, needs)) (λ c κs. search needs) cast (λ c. search needs) (λ c. search needs) (λ c. search needs) (λ c. search needs) (λ c. search stored-next) (λ c. search needs) (λ c. search stored-end))

@@ -1,0 +1,217 @@
+-- What ties the code's arrangement of a contest to the definitions of Contest.antt and Stability.antt.
+use Prim.Native.Nat.{ℕ, zero, suc, _+_, _<_, _≤_, min}
+use native.Mathlib.Omega.{arith}
+use mathlib.Core.Path.{_≡_, refl, sym, ap, ap₂, _∙_, fun-ext}
+use mathlib.Core.Bool.{Bool, true, false, cond, _&&_, _||_, not, and-comm, and-assoc, and-self, and-false, false≢true, true≢false}
+use mathlib.Core.List.{List, [], _∷_}
+use lib.Dec.{eqb, ltb, leb}
+use lib.ListN.{length, getD}
+use borrow.Author.Tests.{eqb-true, eqb-false, eq-eqb, ne-eqb, lt-ltb, le-ltb, ltb-true, ltb-false}
+use Rattle.model.specs.Rows.{keep, some, count, span, table, column}
+use Rattle.model.specs.Decision.{Mesh, none, all, ownOf, metric, beats, beatsBy, unbeaten, unbeatenBy, preferred}
+use Rattle.model.specs.Stability.{contenders, before, standing}
+use Rattle.model.specs.Contest.{Contest, leastOr, end, passed, firstFree, refine, repeat, beatsOwnBy, aheadBy, contending, placeOf, contest, atPlace}
+use Rattle.model.specs.Lent.{on, rowsOf}
+use Rattle.model.specs.Arrangement.{alikeBy, groupBy, placeBy, listed, standsAt}
+use Rattle.model.specs.LoopLaws.{by, both, keep-keep, table-same, table-at}
+use Rattle.model.specs.ColumnLaws.{Among, among-keep, among-rows, Agree, agree-keep, keep-agree, some-agree, least-or-agree, column-table}
+
+-- ---- groups
+
+-- z is the first from `from` on that passes a test, or d
+record FirstOf (t : ℕ → Bool) (from d z : ℕ) : Type 0 where
+  high : z ≤ d
+  hit : z < d → t z ≡ true
+  miss : (y : ℕ) → from ≤ y → y < z → t y ≡ false
+
+first-of : (t : ℕ → Bool) (from n d : ℕ) → d ≡ from + n → FirstOf t from d (getD (keep t (span from n)) 0 d)
+first-of t from zero d e = record { high = omega arith; hit = λ l. absurd (omega arith); miss = λ y l m. absurd (omega arith) }
+first-of t from (suc n) d e =
+    let ih = first-of t (suc from) n d (omega arith) in
+    by (t from)
+    (λ h. rw h (record { high = omega arith; hit = λ _. h; miss = λ y l m. absurd (omega arith) }))
+    (λ h. rw h (record {
+      high = ih .high;
+      hit = ih .hit;
+      miss = λ y l m. by (eqb y from)
+          (λ same. rw (eqb-true y from same) h)
+          (λ other. let o = eqb-false y from other in ih .miss y (omega (arith, o)) m);
+    }))
+
+module _ (a b : ℕ → ℕ) where
+  alike-refl : (q : ℕ) → alikeBy a b q q ≡ true
+  alike-refl q = rw (eq-eqb (a q) (a q) refl, eq-eqb (b q) (b q) refl)
+
+  alike-is : (q p : ℕ) → alikeBy a b q p ≡ true → (a p ≡ a q) × (b p ≡ b q)
+  alike-is q p e = let h = both (eqb (a p) (a q)) (eqb (b p) (b q)) e in (eqb-true (a p) (a q) (h .0), eqb-true (b p) (b q) (h .1))
+
+  is-alike : (q p : ℕ) → a p ≡ a q → b p ≡ b q → alikeBy a b q p ≡ true
+  is-alike q p d e = rw (eq-eqb (a p) (a q) d, eq-eqb (b p) (b q) e)
+
+  group-first : (q : ℕ) → FirstOf (alikeBy a b q) 0 q (groupBy a b q)
+  group-first q = first-of (alikeBy a b q) 0 q q (omega arith)
+
+  pub group-le : (q : ℕ) → groupBy a b q ≤ q
+  group-le q = group-first q .high
+
+  -- a group is one of its own rows
+  group-in : (q : ℕ) → alikeBy a b q (groupBy a b q) ≡ true
+  group-in q =
+      by (eqb (groupBy a b q) q)
+      (λ same. rw (eqb-true (groupBy a b q) q same) (alike-refl q))
+      (λ other. let f = group-first q in let o = eqb-false (groupBy a b q) q other in f .hit (let h = f .high in omega (arith, o)))
+
+  group-below : (p q : ℕ) → a p ≡ a q → b p ≡ b q → groupBy a b q ≤ groupBy a b p
+  group-below p q d e =
+      let z = groupBy a b p in
+      let h = alike-is p z (group-in p) in
+      let in-q : alikeBy a b q z ≡ true = is-alike q z (h .0 ∙ d) (h .1 ∙ e) in
+      by (ltb z (groupBy a b q))
+      (λ l. absurd (false≢true (sym (group-first q .miss z (omega arith) (ltb-true z (groupBy a b q) l)) ∙ in-q)))
+      (λ l. ltb-false z (groupBy a b q) l)
+
+  -- two rows are of one group exactly when they have the same in both columns
+  pub group-same : (p q : ℕ) → eqb (groupBy a b p) (groupBy a b q) ≡ alikeBy a b q p
+  group-same p q =
+      by (alikeBy a b q p)
+      (λ h. let s = alike-is q p h in
+      let l = group-below p q (s .0) (s .1) in
+      let m = group-below q p (sym (s .0)) (sym (s .1)) in
+      eq-eqb (groupBy a b p) (groupBy a b q) (omega arith) ∙ sym h)
+      (λ h. ne-eqb (groupBy a b p) (groupBy a b q) (λ e.
+      let s = alike-is p (groupBy a b p) (group-in p) in
+      let t = alike-is q (groupBy a b q) (group-in q) in
+      let d : a p ≡ a q = sym (s .0) ∙ ap a e ∙ t .0 in
+      let f : b p ≡ b q = sym (s .1) ∙ ap b e ∙ t .1 in
+      true≢false (sym (is-alike q p d f) ∙ h)) ∙ sym h)
+
+-- ---- step 4 by the lowest MED of each group
+
+-- a row is beaten exactly when the lowest MED of its group is below its own
+module _ (asn med : ℕ → ℕ) (past q : ℕ) (high : med q ≤ past) where
+  pub beaten-low : (rows : List ℕ) → some (λ p. beatsBy asn med p q) rows ≡ ltb (leastOr past med (keep (λ p. eqb (asn p) (asn q)) rows)) (med q)
+  beaten-low [] = sym (le-ltb past (med q) high)
+  beaten-low (p ∷ rows) =
+      let ih = beaten-low rows in
+      let low = leastOr past med (keep (λ p. eqb (asn p) (asn q)) rows) in
+      by (eqb (asn p) (asn q))
+      (λ e. rw (e, ih) (min-ltb (med p) low (med q)))
+      (λ e. rw (e, ih))
+    where
+      min-ltb : (x y z : ℕ) → (ltb x z || ltb y z) ≡ ltb (min x y) z
+      min-ltb x y z =
+          by (ltb x z)
+          (λ h. let l = ltb-true x z h in rw h (sym (lt-ltb (min x y) z (omega arith))))
+          (λ h. let l = ltb-false x z h in
+          by (ltb y z)
+          (λ g. let m = ltb-true y z g in rw (h, g) (sym (lt-ltb (min x y) z (omega arith))))
+          (λ g. let m = ltb-false y z g in rw (h, g) (sym (le-ltb (min x y) z (omega arith)))))
+
+-- so step 4 needs only the lowest MED of each group, where no MED is above `past`
+pub unbeaten-low : (group med low : ℕ → ℕ) (past : ℕ) (others rows : List ℕ) → ((q : ℕ) → med q ≤ past)
+    → ((q : ℕ) → Among q rows → low (group q) ≡ leastOr past med (keep (λ p. eqb (group p) (group q)) others))
+    → keep (λ q. not (ltb (low (group q)) (med q))) rows ≡ unbeatenBy (beatsBy group med) others rows
+unbeaten-low group med low past others rows high lows =
+    keep-agree (λ q. not (ltb (low (group q)) (med q))) (λ q. not (some (λ p. beatsBy group med p q) others)) rows
+    (λ q m. ap not (ap (λ (k : ℕ). ltb k (med q)) (lows q m) ∙ sym (beaten-low group med past q (high q) others)))
+
+-- what beats what may be told by any test that agrees on the rows in question
+pub unbeaten-agree : (beat beat′ : ℕ → ℕ → Bool) (others rows : List ℕ)
+    → ((q : ℕ) → Among q rows → Agree (λ p. beat p q) (λ p. beat′ p q) others)
+    → unbeatenBy beat others rows ≡ unbeatenBy beat′ others rows
+unbeaten-agree beat beat′ others rows h =
+    keep-agree (λ q. not (some (λ p. beat p q) others)) (λ q. not (some (λ p. beat′ p q) others)) rows
+    (λ q m. ap not (some-agree (λ p. beat p q) (λ p. beat′ p q) others (h q m)))
+
+-- beating by stored groups of one column: beating by the column
+module _ (asn med : ℕ → ℕ) where
+  pub beats-grouped : (n p q : ℕ) → p < n → q < n → beatsBy (column (table n (groupBy asn asn))) med p q ≡ beatsBy asn med p q
+  beats-grouped n p q l m =
+      let g = groupBy asn asn in
+      rw (table-at g 0 n p l, table-at g 0 n q m, group-same asn asn p q, and-self (eqb (asn p) (asn q)))
+
+  -- by stored groups of router and column: beating within one router
+  pub beats-own-grouped : (router : ℕ → ℕ) (n p q : ℕ) → p < n → q < n → beatsBy (column (table n (groupBy router asn))) med p q ≡ beatsOwnBy router asn med p q
+  beats-own-grouped router n p q l m =
+      let g = groupBy router asn in
+      rw (table-at g 0 n p l, table-at g 0 n q m, group-same router asn p q) (and-assoc (eqb (router p) (router q)) (eqb (asn p) (asn q)) (ltb (med p) (med q)))
+
+-- ---- contests that agree on their items come to the same
+module _ (owners : ℕ) (items : List ℕ) (owner place place′ : ℕ → ℕ) (beat beat′ : ℕ → ℕ → Bool)
+    (places : Agree place place′ items) (beating : (q : ℕ) → Among q items → Agree (λ p. beat p q) (λ p. beat′ p q) items) where
+  abbrev C : Contest
+  C = record { owners = owners; items = items; owner = owner; place = place; beats = beat }
+
+  abbrev D : Contest
+  D = record { owners = owners; items = items; owner = owner; place = place′; beats = beat′ }
+
+  passed-agree : (x : List ℕ) → passed C x ≡ passed D x
+  passed-agree x =
+      keep-agree (λ q. leb (place q) (getD x (owner q) 0)) (λ q. leb (place′ q) (getD x (owner q) 0)) items
+      (λ q m. ap (λ (k : ℕ). leb k (getD x (owner q) 0)) (places q m))
+
+  first-agree : (test : ℕ → Bool) (r : ℕ) → firstFree C (keep test items) r ≡ firstFree D (keep test items) r
+  first-agree test r =
+      let seen = keep test items in
+      let t : ℕ → Bool = λ q. eqb (owner q) r && not (some (λ p. beat p q) seen) in
+      let u : ℕ → Bool = λ q. eqb (owner q) r && not (some (λ p. beat′ p q) seen) in
+      let same : keep t items ≡ keep u items = keep-agree t u items
+      (λ q m. ap (λ (b : Bool). eqb (owner q) r && not b) (some-agree (λ p. beat p q) (λ p. beat′ p q) seen (agree-keep (λ p. beat p q) (λ p. beat′ p q) test items (beating q m)))) in
+      ap (leastOr (end C r) place) same
+      ∙ least-or-agree place place′ (end C r) (keep u items) (agree-keep place place′ u items places)
+
+  refine-agree : (x : List ℕ) → refine C x ≡ refine D x
+  refine-agree x =
+      ap (λ (seen : List ℕ). table owners (firstFree C seen)) (passed-agree x)
+      ∙ table-same (firstFree C (passed D x)) (firstFree D (passed D x)) owners (λ r l. first-agree (λ q. leb (place′ q) (getD x (owner q) 0)) r)
+
+  pub repeat-agree : (n : ℕ) (x : List ℕ) → repeat C n x ≡ repeat D n x
+  repeat-agree zero x = refl
+  repeat-agree (suc n) x = ap (repeat C n) (refine-agree x) ∙ repeat-agree n (refine D x)
+
+-- ---- contenders, places and the rows at them, of a mesh
+module _ (kept test : ℕ → Bool) where
+  some-of-kept : (rows : List ℕ) → some test (keep kept rows) ≡ some (λ q. kept q && test q) rows
+  some-of-kept [] = refl
+  some-of-kept (q ∷ rows) =
+      let ih = some-of-kept rows in
+      by (kept q) (λ e. simp (e, ih)) (λ e. simp (e, ih))
+
+  count-of-kept : (rows : List ℕ) → count test (keep kept rows) ≡ count (λ q. kept q && test q) rows
+  count-of-kept [] = refl
+  count-of-kept (q ∷ rows) =
+      let ih = count-of-kept rows in
+      by (kept q) (λ e. simp (e, ih)) (λ e. simp (e, ih))
+
+module _ (M : Mesh) (r : ℕ) where
+  -- a router's contenders are its own of all that contend
+  pub contenders-are : contenders M r ≡ keep (ownOf M r) (contending M)
+  contenders-are =
+      let rows = preferred M (all M) in
+      let own = ownOf M r in
+      let free : ℕ → Bool = λ q. not (some (λ p. beatsOwnBy (M .router) (M .asn) (metric M) p q) rows) in
+      let alone : ℕ → Bool = λ q. not (some (λ p. beats M p q) (keep own rows)) in
+      keep-keep alone own rows
+      ∙ ap (λ (t : ℕ → Bool). keep t rows) (fun-ext λ q. by (own q)
+      (λ e. let same : M .router q ≡ r = eqb-true (M .router q) r e in
+      rw (same, some-of-kept own (λ p. beats M p q) rows, and-comm (eqb r r) (not (some (λ p. own p && beats M p q) rows))))
+      (λ e. rw (e, and-false (free q))))
+      ∙ sym (keep-keep own free rows)
+
+  -- a contender stands at its place
+  pub standing-is : (q : ℕ) → Among q (contenders M r) → standing M r q ≡ placeOf M q
+  standing-is q m =
+      let own = ownOf M r in
+      let h = among-keep own q (contending M) (rw contenders-are at m) in
+      let same : M .router q ≡ r = eqb-true (M .router q) r (h .0) in
+      let e : count (λ p. before M p q) (contenders M r) ≡ placeOf M q =
+      ap (count (λ p. before M p q)) contenders-are ∙ count-of-kept own (λ p. before M p q) (contending M)
+      ∙ ap (λ (k : ℕ). count (λ p. eqb (M .router p) k && before M p q) (contending M)) (sym same) in
+      rw m e
+
+  -- the row at a place, by places
+  pub at-place : (x : List ℕ) → atPlace M x r ≡ leastOr none (λ q. q) (keep (λ q. eqb (placeOf M q) (getD x r 0)) (keep (ownOf M r) (contending M)))
+  at-place x =
+      ap (leastOr none (λ q. q)) (keep-agree (λ q. eqb (standing M r q) (getD x r 0)) (λ q. eqb (placeOf M q) (getD x r 0)) (contenders M r)
+      (λ q m. ap (λ (k : ℕ). eqb k (getD x r 0)) (standing-is q m)))
+      ∙ ap (λ (rows : List ℕ). leastOr none (λ q. q) (keep (λ q. eqb (placeOf M q) (getD x r 0)) rows)) contenders-are
