@@ -236,6 +236,19 @@ fn table_is_given_exactly_where_no_snapshot_reads_so() {
     assert!(yes > 1000 && no > 1000, "{yes} sound, {no} not");
 }
 
+/// All 1,024 rows are sound, so only the sum of the prefixes' numbers can stop a fifth prefix from reaching beyond.
+#[test]
+fn rows_beyond_the_last_are_table() {
+    let snapshot = snapshot(1, "tied");
+    let mut lent = wanted_tables(&snapshot);
+    let tables = lent.tables();
+    (tables.address[4], tables.length[4], tables.prefix_routes[4]) = (u32::MAX, 32, 256);
+    let counts = Counts { prefixes: 5, ..counts(&snapshot) };
+    assert_eq!(write(counts, &tables, &mut [0; 53_575]), Err((11, 0)));
+    tables.prefix_routes[4] = 0;
+    assert!(write(counts, &tables, &mut [0; 53_575]).is_ok());
+}
+
 #[test]
 fn forecasts_fill_the_entries_of_the_routers_only() {
     for seed in 0..400 {
