@@ -22,6 +22,13 @@ fn fields_have_the_defaults_of_document_01() {
 }
 
 #[test]
+fn default_ids_and_peers_begin_again_in_each_prefix() {
+    let made = text::make("router 1\nprefix 0.0.0.0/0\nroute 0\nroute 0\nprefix 0.0.0.0/1\nroute 0").expect("sound");
+    let prefixes = read(&made.bytes).expect("the snapshot is sound").prefixes;
+    assert_eq!(prefixes[0].routes[0], prefixes[1].routes[0]);
+}
+
+#[test]
 fn fields_stand_in_any_order() {
     let one = "router 1\nprefix 0.0.0.0/0\nroute 0 med absent origin egp peer 9 id 0.0.0.8 path 7 preference 6 as 5";
     let route = Route {

@@ -4,7 +4,7 @@ use plain::{forecast, page, read, write, Contest, Counts, Lent, NONE};
 use second::record::{encode, Record};
 use second::seed::Seeded;
 use second::snapshot::{Route, Snapshot};
-use second::{damage, print, random, reader, writer};
+use second::{damage, print, random, reader, text, writer};
 
 /// What the tables hold before anything is read into them.
 const BEFORE: u32 = 0xeeee_eeee;
@@ -39,6 +39,21 @@ fn damaged_snapshots_get_the_same_answer() {
     for seed in 0..4000 {
         let bytes = damage::damage(&writer::write(&some_snapshot(seed)), seed);
         assert_eq!(printed(&bytes), print::printed(&bytes), "seed {seed}");
+    }
+}
+
+#[test]
+fn one_more_than_the_limit_is_full() {
+    let prefixes = |count: usize, routes: usize| -> String {
+        (0..count).map(|number| format!("prefix {number}.0.0.0/8\n{}", "route 0\n".repeat(routes))).collect()
+    };
+    for (body, place) in [
+        (prefixes(65, 0), 8 + 64 * 6),
+        (prefixes(1, 257), 14 + 256 * 24),
+        (prefixes(4, 256) + "prefix 4.0.0.0/8\nroute 0\n", 8 + 5 * 6 + 1024 * 24),
+    ] {
+        let bytes = text::make(&format!("router 1\n{body}")).expect("the notation is sound").bytes;
+        assert_eq!(printed(&bytes), format!("refused 8 {place}\n"));
     }
 }
 
