@@ -67,7 +67,11 @@ fn p5_is_open() {
 
 #[test]
 fn p5_is_printed_as_in_document_01() {
-    let page = "forecast 3 1\nprefix 198.51.100.0/24 open 3\nrouter 0 own 1 or own 0\nrouter 1 own 3 or own 2\nrouter 2 via 0 1 or via 0 0\n";
+    let page = "forecast 3 1\n\
+                prefix 198.51.100.0/24 open 3\n\
+                router 0 own 1 or own 0\n\
+                router 1 own 3 or own 2\n\
+                router 2 via 0 1 or via 0 0\n";
     assert_eq!(printed(&bytes(P5)), page);
 }
 

@@ -95,8 +95,8 @@ impl Lent {
     }
 
     pub fn tables(&mut self) -> Tables<'_> {
-        let [ids, distances, address, length, prefix_routes, router, neighbour_as, preference, path, origin, mark, med, neighbour_id, peer] =
-            &mut self.0;
+        let [ids, distances, address, length, prefix_routes, routes @ ..] = &mut self.0;
+        let [router, neighbour_as, preference, path, origin, mark, med, neighbour_id, peer] = routes;
         let routes = Columns { router, neighbour_as, preference, path, origin, mark, med, neighbour_id, peer };
         Tables { ids, distances, address, length, prefix_routes, routes }
     }
