@@ -15,8 +15,11 @@ fn snapshot(seed: u64, kind: &str) -> Snapshot {
 
 /// Kinds in turn, the large ones more seldom.
 fn some_snapshot(seed: u64) -> Snapshot {
-    let kind =
-        if seed % 20 == 0 { random::KINDS[2 + (seed / 20) as usize % 5] } else { random::KINDS[seed as usize % 2] };
+    let kind = if seed.is_multiple_of(20) {
+        random::KINDS[2 + (seed / 20) as usize % 5]
+    } else {
+        random::KINDS[seed as usize % 2]
+    };
     snapshot(seed, kind)
 }
 
