@@ -1,0 +1,324 @@
+//! The baseline against the independent second program, on random and damaged snapshots.
+
+use plain::{forecast, page, read, write, Contest, Counts, Lent, NONE};
+use second::record::{encode, Record};
+use second::seed::Seeded;
+use second::snapshot::{Route, Snapshot};
+use second::{damage, print, random, reader, text, writer};
+
+/// What the tables hold before anything is read into them.
+const BEFORE: u32 = 0xeeee_eeee;
+
+fn snapshot(seed: u64, kind: &str) -> Snapshot {
+    random::random(seed, kind).expect("a kind")
+}
+
+/// Kinds in turn, the large ones more seldom.
+fn some_snapshot(seed: u64) -> Snapshot {
+    let kind = if seed.is_multiple_of(20) {
+        random::KINDS[2 + (seed / 20) as usize % 5]
+    } else {
+        random::KINDS[seed as usize % 2]
+    };
+    snapshot(seed, kind)
+}
+
+fn printed(input: &[u8]) -> String {
+    let mut out = Vec::new();
+    page(input, &mut Lent::filled(BEFORE).tables(), &mut out).expect("a vector takes everything");
+    String::from_utf8(out).expect("the page is text")
+}
+
+#[test]
+fn pages_are_the_same() {
+    for seed in 0..1000 {
+        let bytes = writer::write(&some_snapshot(seed));
+        assert_eq!(printed(&bytes), print::printed(&bytes), "seed {seed}");
+    }
+}
+
+#[test]
+fn damaged_snapshots_get_the_same_answer() {
+    for seed in 0..4000 {
+        let bytes = damage::damage(&writer::write(&some_snapshot(seed)), seed);
+        assert_eq!(printed(&bytes), print::printed(&bytes), "seed {seed}");
+    }
+}
+
+#[test]
+fn one_more_than_the_limit_is_full() {
+    let prefixes = |count: usize, routes: usize| -> String {
+        (0..count).map(|number| format!("prefix {number}.0.0.0/8\n{}", "route 0\n".repeat(routes))).collect()
+    };
+    for (body, place) in [
+        (prefixes(65, 0), 8 + 64 * 6),
+        (prefixes(1, 257), 14 + 256 * 24),
+        (prefixes(4, 256) + "prefix 4.0.0.0/8\nroute 0\n", 8 + 5 * 6 + 1024 * 24),
+    ] {
+        let bytes = text::make(&format!("router 1\n{body}")).expect("the notation is sound").bytes;
+        assert_eq!(printed(&bytes), format!("refused 8 {place}\n"));
+    }
+}
+
+/// The tables as the second program's snapshot says they must be, with `BEFORE` in every unused row.
+fn wanted_tables(snapshot: &Snapshot) -> Lent {
+    let mut lent = Lent::filled(BEFORE);
+    let tables = lent.tables();
+    tables.ids[..snapshot.ids.len()].copy_from_slice(&snapshot.ids);
+    for (row, wanted) in tables.distances.chunks_mut(64).zip(&snapshot.distances) {
+        row[..wanted.len()].copy_from_slice(wanted);
+    }
+    let mut row = 0;
+    for (number, prefix) in snapshot.prefixes.iter().enumerate() {
+        tables.address[number] = prefix.address;
+        tables.length[number] = u32::from(prefix.length);
+        tables.prefix_routes[number] = prefix.routes.len() as u32;
+        for route in &prefix.routes {
+            tables.routes.router[row] = u32::from(route.router);
+            tables.routes.neighbour_as[row] = route.neighbour_as;
+            tables.routes.preference[row] = route.preference;
+            tables.routes.path[row] = u32::from(route.path);
+            tables.routes.origin[row] = u32::from(route.origin);
+            tables.routes.mark[row] = u32::from(route.mark);
+            tables.routes.med[row] = route.med;
+            tables.routes.neighbour_id[row] = route.neighbour_id;
+            tables.routes.peer[row] = route.peer;
+            row += 1;
+        }
+    }
+    lent
+}
+
+fn counts(snapshot: &Snapshot) -> Counts {
+    Counts { routers: snapshot.ids.len(), prefixes: snapshot.prefixes.len(), routes: snapshot.routes() }
+}
+
+#[test]
+fn reading_fills_the_used_rows_only() {
+    for seed in 0..400 {
+        let snapshot = some_snapshot(seed);
+        let mut lent = Lent::filled(BEFORE);
+        let read = read(&writer::write(&snapshot), &mut lent.tables());
+        assert_eq!(read, Ok(counts(&snapshot)));
+        assert!(lent.0 == wanted_tables(&snapshot).0, "seed {seed}");
+    }
+}
+
+#[test]
+fn a_refusal_leaves_the_tables() {
+    for seed in 0..1000 {
+        let bytes = damage::damage(&writer::write(&some_snapshot(seed)), seed);
+        let mut lent = Lent::filled(BEFORE);
+        if read(&bytes, &mut lent.tables()).is_err() {
+            assert!(lent.0 == Lent::filled(BEFORE).0, "seed {seed}");
+        }
+    }
+}
+
+#[test]
+fn a_short_table_is_room() {
+    let snapshot = snapshot(1, "open");
+    let bytes = writer::write(&snapshot);
+    for table in 0..14 {
+        let mut lent = wanted_tables(&snapshot);
+        lent.0[table].pop();
+        assert_eq!(read(&[], &mut lent.tables()), Err((1, 0)));
+        assert_eq!(write(counts(&snapshot), &lent.tables(), &mut []), Err((1, 0)));
+        assert_eq!(forecast(counts(&snapshot), &lent.tables(), 99, &mut [0; 64], &mut [0; 64]), Err((1, 0)));
+        let mut lent = Lent::filled(BEFORE);
+        lent.0[table].push(BEFORE);
+        assert_eq!(read(&bytes, &mut lent.tables()), Ok(counts(&snapshot)));
+    }
+}
+
+#[test]
+fn writing_gives_the_bytes_that_were_read() {
+    for seed in 0..400 {
+        let snapshot = some_snapshot(seed);
+        let bytes = writer::write(&snapshot);
+        let mut lent = wanted_tables(&snapshot);
+        let mut out = vec![0xee; bytes.len() + 3];
+        assert_eq!(write(counts(&snapshot), &lent.tables(), &mut out), Ok(bytes.len()));
+        assert!(out[..bytes.len()] == bytes && out[bytes.len()..] == [0xee; 3]);
+        let mut short = vec![0xee; bytes.len() - 1];
+        assert_eq!(write(counts(&snapshot), &lent.tables(), &mut short), Err((1, 0)));
+        assert!(short.iter().all(|&byte| byte == 0xee));
+    }
+}
+
+/// Whether some snapshot reads into these tables: they are encoded as far as values fit, and read again.
+fn sound(counts: Counts, lent: &mut Lent) -> bool {
+    encoded(counts, lent).is_some_and(|bytes| reader::read(&bytes).is_ok())
+}
+
+fn encoded(counts: Counts, lent: &mut Lent) -> Option<Vec<u8>> {
+    if counts.routers > 64 || counts.prefixes > 64 || counts.routes > 1024 {
+        return None;
+    }
+    let tables = lent.tables();
+    let row = |from: usize| tables.distances[from * 64..from * 64 + counts.routers].to_vec();
+    let distances: Vec<Vec<u32>> = (0..counts.routers).map(row).collect();
+    if (0..counts.routers).any(|router| distances[router][router] != 0) {
+        return None;
+    }
+    let mut records = writer::network(&tables.ids[..counts.routers], &distances);
+    let mut row = 0;
+    for prefix in 0..counts.prefixes {
+        let length = u8::try_from(tables.length[prefix]).ok()?;
+        records.push(Record::Prefix { address: tables.address[prefix], length });
+        let end = row + tables.prefix_routes[prefix] as usize;
+        for row in row..end {
+            records.push(Record::Route(encodable(lent_row(&tables, row)?)?));
+        }
+        row = end;
+    }
+    records.push(Record::End(records.len() as u32));
+    (row == counts.routes).then(|| records.iter().flat_map(encode).collect())
+}
+
+/// The nine fields of a row, if there is such a row.
+fn lent_row(tables: &plain::Tables, row: usize) -> Option<[u32; 9]> {
+    let routes = &tables.routes;
+    (row < 1024).then(|| {
+        [
+            routes.router[row],
+            routes.neighbour_as[row],
+            routes.preference[row],
+            routes.path[row],
+            routes.origin[row],
+            routes.mark[row],
+            routes.med[row],
+            routes.neighbour_id[row],
+            routes.peer[row],
+        ]
+    })
+}
+
+fn encodable(
+    [router, neighbour_as, preference, path, origin, mark, med, neighbour_id, peer]: [u32; 9],
+) -> Option<Route> {
+    Some(Route {
+        router: u8::try_from(router).ok()?,
+        neighbour_as: u32::from(u16::try_from(neighbour_as).ok()?),
+        preference,
+        path: u16::try_from(path).ok()?,
+        origin: u8::try_from(origin).ok()?,
+        mark: u8::try_from(mark).ok()?,
+        med,
+        neighbour_id,
+        peer,
+    })
+}
+
+/// A value somewhere in the tables, or a count, altered.
+fn altered(seeded: &mut Seeded, counts: &mut Counts, lent: &mut Lent) {
+    const VALUES: [u32; 14] = [0, 1, 2, 3, 33, 64, 255, 256, 65_534, 65_535, 65_536, 16_777_215, 16_777_216, u32::MAX];
+    match seeded.below(12) {
+        0 => counts.routers = seeded.pick(&[0, 1, 2, counts.routers + 1, 64, 65]),
+        1 => counts.prefixes = seeded.pick(&[0, 1, counts.prefixes + 1, 64, 65]),
+        2 => counts.routes = seeded.pick(&[0, 1, counts.routes + 1, 1024, 1025, usize::MAX]),
+        _ => {
+            let table = &mut lent.0[seeded.below(14)];
+            // Mostly among the first rows, which are used.
+            let at = seeded.pick(&[0, 1, 2, 3, 5, 8, 64, 65, 66, 129]).min(table.len() - 1);
+            let neighbour = table[(at + 1).min(table.len() - 1)];
+            let value = seeded.pick(&VALUES);
+            table[at] = seeded.pick(&[value, value, neighbour]);
+        }
+    }
+}
+
+#[test]
+fn table_is_given_exactly_where_no_snapshot_reads_so() {
+    let (mut yes, mut no) = (0, 0);
+    for seed in 0..6000 {
+        let snapshot = some_snapshot(seed);
+        let mut lent = wanted_tables(&snapshot);
+        let mut counts = counts(&snapshot);
+        altered(&mut Seeded::new(seed), &mut counts, &mut lent);
+        let mut out = vec![0xee; 53_575];
+        let (mut early, mut late) = ([7; 64], [7; 64]);
+        let written = write(counts, &lent.tables(), &mut out);
+        let forecast = forecast(counts, &lent.tables(), 64, &mut early, &mut late);
+        if sound(counts, &mut lent) {
+            yes += 1;
+            assert!(written.is_ok(), "seed {seed}");
+            assert_eq!(forecast, Err((12, 0)));
+        } else {
+            no += 1;
+            assert_eq!((written, forecast), (Err((11, 0)), Err((11, 0))), "seed {seed}");
+            assert!(out.iter().all(|&byte| byte == 0xee));
+        }
+        assert_eq!((early, late), ([7; 64], [7; 64]));
+    }
+    assert!(yes > 1000 && no > 1000, "{yes} sound, {no} not");
+}
+
+/// All 1,024 rows are sound, so only the sum of the prefixes' numbers can stop a fifth prefix from reaching beyond.
+#[test]
+fn rows_beyond_the_last_are_table() {
+    let snapshot = snapshot(1, "tied");
+    let mut lent = wanted_tables(&snapshot);
+    let tables = lent.tables();
+    (tables.address[4], tables.length[4], tables.prefix_routes[4]) = (u32::MAX, 32, 256);
+    let counts = Counts { prefixes: 5, ..counts(&snapshot) };
+    assert_eq!(write(counts, &tables, &mut [0; 53_575]), Err((11, 0)));
+    tables.prefix_routes[4] = 0;
+    assert!(write(counts, &tables, &mut [0; 53_575]).is_ok());
+}
+
+#[test]
+fn forecasts_fill_the_entries_of_the_routers_only() {
+    for seed in 0..400 {
+        let snapshot = some_snapshot(seed);
+        let mut lent = wanted_tables(&snapshot);
+        for prefix in 0..snapshot.prefixes.len() {
+            let (mut early, mut late) = ([7; 65], [7; 65]);
+            let given =
+                forecast(counts(&snapshot), &lent.tables(), prefix, &mut early, &mut late).expect("sound tables");
+            let outlook = second::forecast::forecast(&snapshot, prefix);
+            let routers = snapshot.ids.len();
+            let rows = |held: &[Option<usize>]| -> Vec<u32> {
+                held.iter().map(|row| row.map_or(NONE, |row| row as u32)).collect()
+            };
+            assert_eq!(early[..routers], rows(&outlook.early));
+            assert_eq!(late[..routers], rows(&outlook.late));
+            assert!(early[routers..].iter().chain(&late[routers..]).all(|&entry| entry == 7));
+            let bits = (0..64).filter(|router| given.word >> router & 1 == 1);
+            assert!(bits.eq((0..routers).filter(|&router| early[router] != late[router])));
+            assert_eq!(given.open as usize, outlook.open());
+        }
+    }
+}
+
+#[test]
+fn a_forecast_refuses_in_order() {
+    let snapshot = snapshot(3, "open");
+    let mut lent = wanted_tables(&snapshot);
+    let counts = counts(&snapshot);
+    let prefixes = counts.prefixes;
+    let bad = Counts { routers: 0, ..counts };
+    assert_eq!(forecast(bad, &lent.tables(), prefixes, &mut [0; 63], &mut [0; 64]), Err((1, 0)));
+    assert_eq!(forecast(bad, &lent.tables(), prefixes, &mut [0; 64], &mut [0; 63]), Err((1, 0)));
+    assert_eq!(forecast(bad, &lent.tables(), prefixes, &mut [0; 64], &mut [0; 64]), Err((11, 0)));
+    assert_eq!(forecast(counts, &lent.tables(), prefixes, &mut [0; 64], &mut [0; 64]), Err((12, 0)));
+}
+
+/// The rounds that change something on the way to early and to late, in a prefix of a random snapshot.
+fn rounds(kind: &str, prefix: usize) -> (usize, usize) {
+    let snapshot = snapshot(1, kind);
+    let mut lent = wanted_tables(&snapshot);
+    let tables = lent.tables();
+    let start: usize = snapshot.prefixes[..prefix].iter().map(|prefix| prefix.routes.len()).sum();
+    let rows = start..start + snapshot.prefixes[prefix].routes.len();
+    let contest = Contest::new(&tables.routes, rows, 64);
+    (contest.settle(&mut contest.all_first()), contest.settle(&mut contest.all_past()))
+}
+
+#[test]
+fn the_chains_need_240_rounds() {
+    for prefix in 0..4 {
+        assert_eq!(rounds("chain-early", prefix).0, 240);
+        assert_eq!(rounds("chain-late", prefix).1, 240);
+    }
+}

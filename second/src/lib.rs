@@ -1,0 +1,18 @@
+//! A second, independent forecaster: document 01 written down once more, in plain Rust and by other ways,
+//! so that the proved program can be compared with it. Each module is one small part.
+
+pub mod damage;
+pub mod decide;
+pub mod forecast;
+pub mod host;
+pub mod print;
+pub mod random;
+pub mod reader;
+pub mod record;
+pub mod search;
+pub mod seed;
+pub mod show;
+pub mod snapshot;
+pub mod stable;
+pub mod text;
+pub mod writer;

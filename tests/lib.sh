@@ -1,0 +1,42 @@
+# Shared by the scripts under tests/: the sum of what passed and failed, and how it is reported.
+# A script sources this from the top of the repository, adds to the sum, and ends with 'report'.
+
+passed=0
+failed=0
+
+# check NAME COMMAND ..: one test; it passes if the command does.
+check() {
+    local name=$1
+    shift
+    if "$@"; then
+        passed=$((passed + 1))
+    else
+        echo "FAILED: $name"
+        failed=$((failed + 1))
+    fi
+}
+
+# cargo_tests DIR: builds a cargo project, runs its tests and adds cargo's own numbers to the sum.
+# A build that fails, or a run that counts nothing or ends badly with no failure counted, is a failure itself.
+cargo_tests() {
+    local log status before=$((passed + failed)) failed_before=$failed result
+    log=$(mktemp)
+    (cd "$1" && cargo build --release --offline && cargo test --release --offline --no-fail-fast) 2>&1 | tee "$log"
+    status=${PIPESTATUS[0]}
+    while read -r result; do
+        [[ $result =~ ([0-9]+)\ passed\;\ ([0-9]+)\ failed ]] || continue
+        passed=$((passed + BASH_REMATCH[1]))
+        failed=$((failed + BASH_REMATCH[2]))
+    done < <(grep '^test result:' "$log")
+    rm -f "$log"
+    if [[ $((passed + failed)) -eq $before || ($status -ne 0 && $failed -eq $failed_before) ]]; then
+        echo "FAILED: the tests of $1 did not run to their end"
+        failed=$((failed + 1))
+    fi
+}
+
+# The last line of a script, and its exit status.
+report() {
+    echo "$passed passed, $failed failed"
+    [[ $failed -eq 0 ]]
+}
