@@ -1,0 +1,51 @@
+-- What the forecast of one prefix answers, and what it leaves in the two answer areas, for every input.
+use Prim.Native.Nat.{ℕ, _≤_, _<_}
+use mathlib.Core.Path.{_≡_}
+use mathlib.Core.Bool.{Bool, true, false}
+use mathlib.Core.List.{List, [], _∷_, _++_}
+use lib.Dec.{ltb}
+use lib.ListN.{length}
+use lib.Seq.{sets}
+use Rattle.refusal.specs.declared.Refusal.the-variants.{Room, Table, NoPrefix}
+use Rattle.snapshot.specs.declared.Counts.{Counts}
+use Rattle.snapshot.specs.Limits.{mostRouters}
+use Rattle.snapshot.specs.Ranges.{anyOf}
+use Rattle.snapshot.specs.Format.{Snapshot, Valid}
+use Rattle.snapshot.specs.Tables.{Tables, short, Held, mesh}
+use Rattle.model.specs.Decision.{Mesh}
+use Rattle.model.specs.Stability.{Between, differing}
+use Rattle.word.specs.Word.{word}
+use Rattle.outlook.specs.declared.Differing.{Differing}
+use Rattle.outlook.specs.declared.Outlook.{Outlook}
+use Rattle.outlook.specs.declared.Outlook.the-variants.{Forecast, Refused}
+
+-- ROOM: which of the tables is shorter than its limit, or which answer area shorter than 64 entries
+abbrev pub shortOf : Tables → List ℕ → List ℕ → List Bool
+shortOf t early late = short t ++ (ltb (length early) mostRouters ∷ ltb (length late) mostRouters ∷ [])
+
+-- the word of the routers whose two rows differ, with the number of its ones
+abbrev pub differingOf : Mesh → List ℕ → List ℕ → Differing
+differingOf M early late = record { word = word (differing M early late); number = length (differing M early late) }
+
+-- the answer to these counts, tables, prefix number and answer areas, and what the areas hold afterwards; checked in this order
+pub data Forecasts (counts : Counts) (t : Tables) (p : ℕ) (early late : List ℕ) : Outlook → List ℕ → List ℕ → Type 0 where
+  -- a lent table, or an answer area, is too short
+  room : anyOf (shortOf t early late) ≡ true → Forecasts counts t p early late (Refused Room 0) early late
+
+  -- the tables are not those of any snapshot
+  table : anyOf (shortOf t early late) ≡ false
+      → ((s : Snapshot) → Valid s → Held counts t s → ⊥)
+      → Forecasts counts t p early late (Refused Table 0) early late
+
+  -- they are those of s, and the prefix number is not below its prefix count
+  noPrefix : anyOf (shortOf t early late) ≡ false
+      → (s : Snapshot) → Valid s → Held counts t s
+      → length (s .prefixes) ≤ p
+      → Forecasts counts t p early late (Refused NoPrefix 0) early late
+
+  -- they are those of s: the early and the late assignment of that prefix of s, from the first router on, and the routers that differ
+  given : anyOf (shortOf t early late) ≡ false
+      → (s : Snapshot) → Valid s → Held counts t s
+      → p < length (s .prefixes)
+      → (e l : List ℕ) → Between (mesh s p) e l
+      → Forecasts counts t p early late (Forecast (differingOf (mesh s p) e l)) (sets early 0 e) (sets late 0 l)
