@@ -55,6 +55,12 @@ module _ (M : Mesh) where
   abbrev pub Settled : List ℕ → List ℕ → Type 0
   Settled early late = length (differing early late) ≡ 0
 
+  -- exactly one stable assignment exists
+  pub record Only : Type 0 where
+    pub held : List ℕ
+    pub stable : Stable held
+    pub alone : (other : List ℕ) → Stable other → other ≡ held
+
   -- what a snapshot's prefix is known to be: rows of known routers, at most 65,535 of them; no two of one router with one peer address; no two routers with one id
   pub record Sound : Type 0 where
     pub owned : (q : ℕ) → q < M .rows → M .router q < M .routers
