@@ -2,7 +2,17 @@ pub mod Limits
 pub mod Ranges
 pub mod RangesLaws
 pub mod Records
+pub mod RecordsLaws
 pub mod Format
 pub mod Reading
+pub mod ChecksLaws
+pub mod PairsLaws
+pub mod SectionsLaws
+pub mod AcceptsLaws
+pub mod ReturnsLaws
+pub mod WrittenLaws
+pub mod BorderLaws
+pub mod Examples
+pub mod Theorems
 pub mod Plain
 pub mod Tables
