@@ -1,7 +1,7 @@
 -- Judging tables: the only snapshot that counts and tables can hold, and what a judgement says of them.
-use Prim.Native.Nat.{ℕ, zero, suc, _+_, _*_, _≤_, _<_}
+use Prim.Native.Nat.{ℕ, zero, suc, _+_, _-_, _*_, _≤_, _<_}
 use mathlib.Core.Path.{_≡_}
-use mathlib.Core.Bool.{Bool, true, false, not, _&&_}
+use mathlib.Core.Bool.{Bool, true, false, cond, not, _&&_}
 use mathlib.Core.List.{List, _∷_, map}
 use lib.ListN.{length}
 use lib.Dec.{T, eqb}
@@ -9,7 +9,7 @@ use Rattle.model.specs.Rows.{table, column}
 use Rattle.model.specs.Decision.{Route}
 use Rattle.snapshot.specs.declared.Counts.{Counts}
 use Rattle.snapshot.specs.Limits.{mostRouters, stride, roomDistances, mostPrefixes, mostRoutes}
-use Rattle.snapshot.specs.Ranges.{none, countTests, distanceTests}
+use Rattle.snapshot.specs.Ranges.{none, countTests, distanceTests, rises}
 use Rattle.snapshot.specs.Format.{Prefix, Snapshot, pairs, GoodId, GoodRoute, GoodPrefix, Valid}
 use Rattle.snapshot.specs.Tables.{Columns, Tables, Held}
 
@@ -89,8 +89,12 @@ IdGood ids k = GoodId (table k (column ids)) (column ids k)
 abbrev pub cellTests : ℕ → ℕ → ℕ → List Bool
 cellTests from to distance = (eqb from to && not (eqb distance 0)) ∷ distanceTests distance
 
-abbrev pub CellGood : List ℕ → ℕ → ℕ → Type 0
-CellGood distances from to = T (none (cellTests from to (cell distances from to)))
+pub record CellGood (distances : List ℕ) (from to : ℕ) : Type 0 where
+  pub ranges : T (none (cellTests from to (cell distances from to)))
+
+-- a row of two columns does not rise above the row before it; the first row has none before it
+abbrev pub lateAt : (ℕ → ℕ) → (ℕ → ℕ) → ℕ → ℕ → Bool
+lateAt a b first row = cond (eqb first row) false (not (rises (a (row - 1)) (b (row - 1)) (a row) (b row)))
 
 -- the k-th route from a row on, after those before it
 abbrev pub RouteGood : ℕ → Columns → ℕ → ℕ → Type 0
@@ -103,6 +107,10 @@ PrefixGood n t p = GoodPrefix n (table p (prefixAt t)) (prefixAt t p)
 -- a fact of each number below n
 abbrev pub Below : ℕ → (ℕ → Type 0) → Type 0
 Below n P = (k : ℕ) → k < n → P k
+
+-- the prefixes, and that their numbers of routes add up
+abbrev pub Totalled : Counts → Tables → Type 0
+Totalled counts t = Below (counts .prefixes) (PrefixGood (counts .routers) t) × (start (t .routes) (counts .prefixes) ≡ counts .routes)
 
 -- all of them, and that the prefixes' numbers of routes add up
 pub record Parts (counts : Counts) (t : Tables) : Type 0 where

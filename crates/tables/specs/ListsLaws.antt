@@ -85,9 +85,9 @@ module _ {A : Type 0} (good : List A → A → Type 0) (f : ℕ → A) where
   from-each before from (suc n) h = (
     subst₂ good (append-nil before) (ap f (let z : from + 0 ≡ from = omega arith in z)) (h 0 (omega arith)),
     from-each (before ++ (f from ∷ [])) (suc from) n
-    (λ k l.
-    subst₂ good (sym (append-assoc before (f from ∷ []) (map f (span (suc from) k)))) (ap f (let z : from + suc k ≡ suc from + k = omega arith in z))
-    (h (suc k) (omega arith))),
+        (λ k l.
+        subst₂ good (sym (append-assoc before (f from ∷ []) (map f (span (suc from) k)))) (ap f (let z : from + suc k ≡ suc from + k = omega arith in z))
+        (h (suc k) (omega arith))),
   )
 
   pub each-below : (n : ℕ) → Each good [] (table n f) → Below n (λ k. good (table k f) (f k))
