@@ -1,0 +1,5 @@
+pub mod Judging
+pub mod ListsLaws
+pub mod HeldLaws
+pub mod PartsLaws
+pub mod JudgeLaws

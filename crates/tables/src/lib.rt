@@ -1,0 +1,121 @@
+// Judging tables: whether counts and lent tables are those of some snapshot (TABLE). One function for each part of the tables; the
+// tests of values are those of crate snapshot, as in reading.
+ghost use mathlib.Core.Path.{_≡_};
+ghost use Prim.Native.Nat.{_+_, _≤_, _<_};
+ghost use lib.ListN.{length};
+ghost use lib.Dec.{eqb};
+ghost use Rattle.model.specs.Rows.{some, table};
+ghost use Rattle.model.specs.Lent.{was, col};
+ghost use Rattle.snapshot.specs.Limits.{mostRouters, roomDistances, mostPrefixes, mostRoutes};
+ghost use Rattle.snapshot.specs.Ranges.{anyOf};
+ghost use Rattle.snapshot.specs.Plain.{routeIs};
+ghost use Rattle.snapshot.specs.Tables.{columns, tables};
+ghost use Rattle.tables.specs.Judging.{RoomRows, Room, routeAt, start, cellTests, lateAt, IdGood, CellGood, RouteGood, PrefixGood, Below, Decides, Totalled, Judged};
+
+// Whether an id is one of the first k.
+fn twin(ids: &[u32], k: usize, id: u32) -> bool
+    requires { ⌜ k ≤ length (now ids) ⌝ }
+    ensures { λ r. ⌜ r ≡ some (eqb id) (table k (col ids)) ⌝ }
+{
+    let mut i = 0;
+    while i < k {
+        if id == ids[i] {
+            return true;
+        }
+        i += 1;
+    }
+    false
+}
+
+// Whether the ids of n routers are in their range, each given once.
+fn ids_good(n: usize, ids: &[u32]) -> bool
+    requires { ⌜ n ≤ length (now ids) ⌝ }
+    ensures { λ r. ⌜ Decides (Below n (IdGood (was ids))) r ⌝ }
+{
+    let mut k = 0;
+    while k < n {
+        let id = ids[k];
+        if snapshot::id_bad(id) | twin(ids, k, id) {
+            return false;
+        }
+        k += 1;
+    }
+    true
+}
+
+// Whether a distance is outside its range, or that of an equal pair and not 0.
+fn cell_bad(from: usize, to: usize, distance: u32) -> bool
+    ensures { λ r. ⌜ r ≡ anyOf (cellTests from to distance) ⌝ }
+{
+    ((from == to) & (distance != 0)) | snapshot::distance_bad(distance)
+}
+
+// Whether the distances from one router are in their range.
+fn row_good(n: usize, distances: &[u32], from: usize) -> bool
+    requires { ⌜ (from < n) × (n ≤ mostRouters) × (roomDistances ≤ length (now distances)) ⌝ }
+    ensures { λ r. ⌜ Decides (Below n (CellGood (was distances) from)) r ⌝ }
+{
+    let mut to = 0;
+    while to < n {
+        if cell_bad(from, to, distances[from * snapshot::STRIDE + to]) {
+            return false;
+        }
+        to += 1;
+    }
+    true
+}
+
+// Whether the distances between n routers are in their range.
+fn distances_good(n: usize, distances: &[u32]) -> bool
+    requires { ⌜ (n ≤ mostRouters) × (roomDistances ≤ length (now distances)) ⌝ }
+    ensures { λ r. ⌜ Decides (Below n (λ from. Below n (CellGood (was distances) from))) r ⌝ }
+{
+    let mut from = 0;
+    while from < n {
+        if !row_good(n, distances, from) {
+            return false;
+        }
+        from += 1;
+    }
+    true
+}
+
+// Whether a row of two columns does not rise above the row before it. The first row has none before it.
+fn late_at(a: &[u32], b: &[u32], first: usize, row: usize) -> bool
+    requires { ⌜ (first ≤ row) × (row < length (now a)) × (row < length (now b)) ⌝ }
+    ensures { λ r. ⌜ r ≡ lateAt (col a) (col b) first row ⌝ }
+{
+    if first == row {
+        return false;
+    }
+    snapshot::late(a[row - 1], b[row - 1], a[row], b[row])
+}
+
+// The route in a row of the columns.
+pub fn route_at(
+    router: &[u32],
+    asn: &[u32],
+    preference: &[u32],
+    path: &[u32],
+    origin: &[u32],
+    mark: &[u32],
+    med: &[u32],
+    nid: &[u32],
+    peer: &[u32],
+    row: usize,
+) -> snapshot::Route
+    requires { ⌜ (row < mostRoutes) × RoomRows (columns (now router) (now asn) (now preference) (now path) (now origin) (now mark) (now med) (now nid) (now peer)) ⌝ }
+    ensures { λ r. ⌜ routeIs r ≡ routeAt (columns (was router) (was asn) (was preference) (was path) (was origin) (was mark) (was med) (was nid) (was peer)) row ⌝ }
+{
+    snapshot::Route {
+        router: router[row],
+        asn: asn[row],
+        preference: preference[row],
+        path: path[row],
+        origin: origin[row],
+        mark: mark[row],
+        med: med[row],
+        nid: nid[row],
+        peer: peer[row],
+    }
+}
