@@ -1,6 +1,109 @@
--- The promise of a forecast determines its answer and both areas.
+-- The promise of a forecast determines its answer and both areas, and its number says whether a second stable assignment exists.
 use Prim.Native.Nat.{ℕ, _≤_, _<_}
+use native.Mathlib.Omega.{arith}
 use mathlib.Core.Path.{_≡_, refl, sym, ap, ap₂, subst, _∙_}
+use mathlib.Core.Logic.{_↔_}
+use mathlib.Core.Bool.{Bool, true, false, true≢false, false≢true}
 use mathlib.Core.List.{List}
-use lib.ListN.{length}
-use Rattle.outlook.specs.Outlook.{Forecasts, room, table, noPrefix, given}
+use lib.ListN.{length, getD}
+use lib.Dec.{ltb}
+use borrow.Author.Tests.{ltb-false}
+use lib.Seq.{sets}
+use Rattle.snapshot.specs.declared.Counts.{Counts}
+use Rattle.snapshot.specs.Format.{Snapshot, Valid}
+use Rattle.snapshot.specs.Limits.{mostRouters}
+use Rattle.snapshot.specs.Ranges.{anyOf}
+use Rattle.snapshot.specs.RangesLaws.{none-at, none-any}
+use Rattle.snapshot.specs.Tables.{Tables, Held, mesh}
+use Rattle.tables.specs.HeldLaws.{held-one}
+use Rattle.tables.specs.Judging.{Room}
+use Rattle.model.specs.Stability.{Sound, Between, Only}
+use Rattle.model.specs.Theorems.{pair-determined, settled-only}
+use Rattle.outlook.specs.declared.Differing.{Differing}
+use Rattle.outlook.specs.declared.Outlook.{Outlook}
+use Rattle.outlook.specs.declared.Outlook.the-variants.{Forecast, Refused}
+use Rattle.outlook.specs.Outlook.{Forecasts, room, table, noPrefix, given, differingOf, shortOf}
+
+-- ---- room
+
+module _ (t : Tables) (early late : List ℕ) (enough : anyOf (shortOf t early late) ≡ false) where
+  -- the k-th of the tables and areas has its limit
+  long : (k n most : ℕ) → getD (shortOf t early late) k false ≡ ltb n most → most ≤ n
+  long k n most e = ltb-false n most (sym e ∙ none-at (shortOf t early late) (none-any (shortOf t early late) enough) k)
+
+  pub has-room : Room t
+  has-room = record {
+    ids = long 0 _ _ refl;
+    distances = long 1 _ _ refl;
+    prefixes = record {
+      address = long 2 _ _ refl;
+      bits = long 3 _ _ refl;
+      routes = long 4 _ _ refl;
+      rows = record {
+        router = long 5 _ _ refl;
+        asn = long 6 _ _ refl;
+        preference = long 7 _ _ refl;
+        path = long 8 _ _ refl;
+        origin = long 9 _ _ refl;
+        mark = long 10 _ _ refl;
+        med = long 11 _ _ refl;
+        nid = long 12 _ _ refl;
+        peer = long 13 _ _ refl;
+      };
+    };
+  }
+
+  pub early-room : mostRouters ≤ length early
+  early-room = long 14 _ _ refl
+
+  pub late-room : mostRouters ≤ length late
+  late-room = long 15 _ _ refl
+
+sound : (s : Snapshot) → Valid s → (p : ℕ) → p < length (s .prefixes) → Sound (mesh s p)
+sound = ?
+
+-- ---- one answer
+
+-- the same answer and the same areas
+pub record Same (a b : Outlook) (early early′ late late′ : List ℕ) : Type 0 where
+  pub answer : a ≡ b
+  pub earlies : early ≡ early′
+  pub lates : late ≡ late′
+
+pub forecasts-one : {counts : Counts} {t : Tables} {p : ℕ} {early late : List ℕ} {a b : Outlook} {e l e′ l′ : List ℕ}
+    → Forecasts counts t p early late a e l → Forecasts counts t p early late b e′ l′ → Same a b e e′ l l′
+forecasts-one (room h) (room k) = record { answer = refl; earlies = refl; lates = refl }
+forecasts-one (room h) (table k n) = absurd (true≢false (sym h ∙ k))
+forecasts-one (room h) (noPrefix k s v i m) = absurd (true≢false (sym h ∙ k))
+forecasts-one (room h) (given k s v i m e l b) = absurd (true≢false (sym h ∙ k))
+forecasts-one (table h n) (room k) = absurd (true≢false (sym k ∙ h))
+forecasts-one (table h n) (table k o) = record { answer = refl; earlies = refl; lates = refl }
+forecasts-one (table h n) (noPrefix k s v i m) = absurd (n s v i)
+forecasts-one (table h n) (given k s v i m e l b) = absurd (n s v i)
+forecasts-one (noPrefix h s v i m) (room k) = absurd (true≢false (sym k ∙ h))
+forecasts-one (noPrefix h s v i m) (table k n) = absurd (n s v i)
+forecasts-one (noPrefix h s v i m) (noPrefix k u w j o) = record { answer = refl; earlies = refl; lates = refl }
+forecasts-one {t} {p} {early} {late} (noPrefix h s v i m) (given k u w j o e l b) =
+    absurd (let same = ap (λ (x : Snapshot). length (x .prefixes)) (held-one (has-room t early late h) v i w j) in omega arith)
+forecasts-one (given h s v i m e l b) (room k) = absurd (true≢false (sym k ∙ h))
+forecasts-one (given h s v i m e l b) (table k n) = absurd (n s v i)
+forecasts-one {t} {p} {early} {late} (given h s v i m e l b) (noPrefix k u w j o) =
+    absurd (let same = ap (λ (x : Snapshot). length (x .prefixes)) (held-one (has-room t early late h) v i w j) in omega arith)
+forecasts-one {t} {p} {early} {late} (given h s v i m e l b) (given k u w j o e′ l′ b′) =
+    let same = held-one (has-room t early late h) w j v i in
+    let there : Between (mesh s p) e′ l′ = subst (λ (x : Snapshot). Between (mesh x p) e′ l′) same b′ in
+    let pair = pair-determined (mesh s p) (sound s v p m) e l e′ l′ b there in
+    record {
+      answer = ap₂ (λ (x y : List ℕ). Forecast (differingOf (mesh s p) x y)) (pair .0) (pair .1)
+          ∙ ap (λ (x : Snapshot). Forecast (differingOf (mesh x p) e′ l′)) (sym same);
+      earlies = ap (sets early 0) (pair .0);
+      lates = ap (sets late 0) (pair .1);
+    }
+
+-- ---- settled
+
+-- a forecast is settled exactly when its number is 0, and then no second stable assignment exists
+pub settled : (s : Snapshot) (p : ℕ) → Valid s → p < length (s .prefixes) → (e l : List ℕ) → Between (mesh s p) e l
+    → (differingOf (mesh s p) e l .number ≡ 0) ↔ Only (mesh s p)
+settled s p v m e l b = settled-only (mesh s p) (sound s v p m) e l b
+

@@ -36,6 +36,10 @@ puts-then {a} {at} {t} {u} p q = record {
   bytes = q .bytes ∙ ap₂ (λ (d : List ℕ) (k : ℕ). sets d k u) (p .bytes) (p .place) ∙ sets-append a at t u;
 }
 
+-- a text that is another
+pub puts-as : {a b : List ℕ} {at end : ℕ} {t u : List ℕ} → Puts a b at end t → t ≡ u → Puts a b at end u
+puts-as {a} {b} {at} {end} p e = subst (Puts a b at end) e p
+
 pub puts-length : {a b : List ℕ} {at end : ℕ} {t : List ℕ} → Puts a b at end t → length b ≡ length a
 puts-length {a} {at} {t} p = ap length (p .bytes) ∙ length-sets a at t
 

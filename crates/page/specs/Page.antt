@@ -1,0 +1,52 @@
+-- The printed forecast of a snapshot's bytes.
+use Prim.Native.Nat.{ℕ, _<_}
+use mathlib.Core.Path.{_≡_}
+use mathlib.Core.Logic.{_⊎_}
+use mathlib.Core.Bool.{not}
+use mathlib.Core.List.{List, [], _∷_, _++_, map}
+use lib.Dec.{eqb}
+use lib.ListN.{length, getD}
+use Rattle.refusal.specs.Numbers.{numberOf}
+use Rattle.model.specs.Rows.{span}
+use Rattle.model.specs.Decision.{Mesh, none}
+use Rattle.model.specs.Stability.{differing}
+use Rattle.model.specs.Contest.{early, late}
+use Rattle.snapshot.specs.Format.{Snapshot}
+use Rattle.snapshot.specs.Reading.{Answer, accepted, refused, reading}
+use Rattle.snapshot.specs.Tables.{mesh}
+use Rattle.lines.specs.Lines.{headingLine, refusedLine, prefixLine, routerLine}
+
+-- one text after the other, for each number of a list
+abbrev pub each : (ℕ → List ℕ) → List ℕ → List ℕ
+each text [] = []
+each text (r ∷ rs) = text r ++ each text rs
+
+-- every row that is held is none or a row of the prefix
+pub record Rows (router held : List ℕ) : Type 0 where
+  pub row : (r : ℕ) → r < length held → (getD held r none ≡ none) ⊎ (getD held r none < length router)
+
+-- a prefix's line with the number of routers that differ, and below it router lines, for every router
+abbrev pub prefixText : Mesh → ℕ → ℕ → List ℕ → List ℕ → List ℕ
+prefixText M address bits early late =
+    let number = length (differing M early late) in
+    prefixLine address bits number
+    ++ each (λ r. routerLine (not (eqb number 0)) (M .router) r (getD early r none) (getD late r none)) (span 0 (M .routers))
+
+-- the prefix of a number: its early and its late rows
+abbrev pub prefixOf : Snapshot → ℕ → List ℕ
+prefixOf s p =
+    prefixText (mesh s p) (getD (map (λ q. q .address) (s .prefixes)) p 0) (getD (map (λ q. q .bits) (s .prefixes)) p 0)
+    (early (mesh s p)) (late (mesh s p))
+
+-- line 1, then each prefix in order
+abbrev pub snapshotText : Snapshot → List ℕ
+snapshotText s = headingLine (length (s .ids)) (length (s .prefixes)) ++ each (prefixOf s) (span 0 (length (s .prefixes)))
+
+-- the page of what reading answers: a refusal is one line
+abbrev pub answerText : Answer → List ℕ
+answerText (accepted s) = snapshotText s
+answerText (refused r at) = refusedLine (numberOf r) at
+
+-- the page of a snapshot's bytes
+unfoldable pub page : List ℕ → List ℕ
+page bs = answerText (reading bs)
