@@ -57,7 +57,7 @@ or-false : (a b : Bool) → (a || b) ≡ false → (a ≡ false) × (b ≡ false
 or-false true b e = absurd (true≢false e)
 or-false false b e = (refl, e)
 
-off : (b : Bool) → T (not b) → b ≡ false
+pub off : (b : Bool) → T (not b) → b ≡ false
 off true t = absurd t
 off false t = refl
 
@@ -235,7 +235,7 @@ module _ (n : ℕ) (t : Tables) (p at : ℕ) {bad late : Bool} (here : at ≡ st
         no = λ a good. judged .no a (each-below (GoodRoute n) (route at) count (subst (λ (at : ℕ). Each (GoodRoute n) [] (table count (route at))) (sym here) (good .routes)));
       }
 
-start-next : (routes : List ℕ) (p : ℕ) → start routes (p + 1) ≡ start routes p + column routes p
+pub start-next : (routes : List ℕ) (p : ℕ) → start routes (p + 1) ≡ start routes p + column routes p
 unfolding start
 start-next routes p = rw add-one
 
@@ -243,7 +243,7 @@ start-first : (routes : List ℕ) → start routes 0 ≡ 0
 unfolding start
 start-first routes = refl
 
-start-up : (routes : List ℕ) (p q : ℕ) → p ≤ q → start routes p ≤ start routes q
+pub start-up : (routes : List ℕ) (p q : ℕ) → p ≤ q → start routes p ≤ start routes q
 unfolding start
 start-up routes p zero l = ap≤ (let e : p ≡ 0 = omega arith in e)
   where

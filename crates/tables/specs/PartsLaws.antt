@@ -23,20 +23,20 @@ use Rattle.snapshot.specs.ChecksLaws.{count-range}
 use Rattle.snapshot.specs.PairsLaws.{pairs-length, pair-of}
 use Rattle.tables.specs.Judging.{Room, RoomRows, routeAt, start, routesAt, prefixAt, cell, snapshotOf, Below, cellTests, CellGood, IdGood, PrefixGood, InRange, Totalled, Parts, Decides, Holding, Judged}
 use Rattle.tables.specs.ListsLaws.{table-append, table-snoc, as-table, map-at, each-below, below-each, stays}
-use Rattle.tables.specs.HeldLaws.{pair-two, no-pair, cells, cells-at, distance-apart, distance-equal, length-all, all-append, held-is, held-distance}
+use Rattle.tables.specs.HeldLaws.{pair-two, no-pair, cells, cells-at, distance-apart, distance-equal, length-all, all-append, held-is, cell-is, n-is}
 
 -- ---- a cell of the distances
 
-pub cell-zero : (from to d : ℕ) → T (none (cellTests from to d)) → from ≡ to → d ≡ 0
-cell-zero from to d t e =
-    let off : (eqb from to && not (eqb d 0)) ≡ false = none-split (eqb from to && not (eqb d 0)) (distanceTests d) t .0 in
-    let z : not (eqb d 0) ≡ false = rw (eq-eqb from to e) at off in
-    eqb-true d 0 (not-false (eqb d 0) z)
+pub and-zero : (b : Bool) (d : ℕ) → (b && not (eqb d 0)) ≡ false → b ≡ true → d ≡ 0
+and-zero b d off e = eqb-true d 0 (not-false (eqb d 0) (rw e at off))
+
+cell-zero : (from to d : ℕ) → T (none (cellTests from to d)) → from ≡ to → d ≡ 0
+cell-zero from to d t e = and-zero (eqb from to) d (none-split (eqb from to && not (eqb d 0)) (distanceTests d) t .0) (eq-eqb from to e)
 
 cell-range : (from to d : ℕ) → T (none (cellTests from to d)) → T (none (distanceTests d))
 cell-range from to d t = none-split (eqb from to && not (eqb d 0)) (distanceTests d) t .1
 
-pub cell-good : (from to d : ℕ) → (from ≡ to → d ≡ 0) → T (none (distanceTests d)) → T (none (cellTests from to d))
+cell-good : (from to d : ℕ) → (from ≡ to → d ≡ 0) → T (none (distanceTests d)) → T (none (cellTests from to d))
 cell-good from to d h t = none-cons (distanceTests d) (off (eqb from to) refl) t
   where
     off : (b : Bool) → eqb from to ≡ b → (eqb from to && not (eqb d 0)) ≡ false
@@ -177,7 +177,8 @@ module _ {counts : Counts} {t : Tables} (room : Room t) (valid : Valid (snapshot
       let n : ℕ = counts .routers in
       let ds : List ℕ = cells (t .distances) n in
       let d : ℕ = cell (t .distances) from to in
-      let is = held-distance room valid held from to h k in
+      let e = n-is room valid held in
+      let is = cell-is room valid held from to (omega arith) (omega arith) in
       by (eqb from to)
       (λ e. let z : d ≡ 0 = is ∙ distance-equal (snapshotOf counts t) from to (eqb-true from to e) in record { ranges = cell-good from to d (λ _. z) (rw z tt) })
       (λ e. let ne = eqb-false from to e in
