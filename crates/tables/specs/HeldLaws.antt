@@ -163,10 +163,10 @@ snapshot-is s e1 e2 e3 = rw (← e1, ← e2, ← e3)
 -- ---- the only snapshot
 
 module _ {counts : Counts} {t : Tables} {s : Snapshot} (room : Room t) (valid : Valid s) (held : Held counts t s) where
-  few : length (s .ids) ≤ mostRouters
+  pub few : length (s .ids) ≤ mostRouters
   few = count-range (length (s .ids)) (valid .count) .1
 
-  n-is : counts .routers ≡ length (s .ids)
+  pub n-is : counts .routers ≡ length (s .ids)
   n-is = ap (λ (c : Counts). c .routers) (held .0)
 
   ids-are : s .ids ≡ table (length (s .ids)) (column (t .ids))
@@ -175,7 +175,7 @@ module _ {counts : Counts} {t : Tables} {s : Snapshot} (room : Room t) (valid : 
       ∙ table-same (λ k. getD (s .ids) k 0) (column (t .ids)) (length (s .ids))
       (stands (t .ids) (s .ids) (omega (arith, few)) (ap (λ (u : Tables). u .ids) (held .1)))
 
-  cell-is : (from to : ℕ) → from < length (s .ids) → to < length (s .ids) → cell (t .distances) from to ≡ distance s from to
+  pub cell-is : (from to : ℕ) → from < length (s .ids) → to < length (s .ids) → cell (t .distances) from to ≡ distance s from to
   cell-is from to h k =
       ap (λ (u : Tables). cell (u .distances) from to) (sym (held .1)) ∙ filled-there s (t .distances) from to h k few (room .distances)
 
@@ -241,21 +241,3 @@ module _ {counts : Counts} {t : Tables} {s : Snapshot} (room : Room t) (valid : 
       (ids-are ∙ ap (λ (n : ℕ). table n (column (t .ids))) (sym n-is))
       (distances-are ∙ ap (cells (t .distances)) (sym n-is))
       (prefixes-are ∙ ap (λ (n : ℕ). table n (prefixAt t)) (sym (ap (λ (c : Counts). c .prefixes) (held .0))))
-
--- ---- where its parts stand
-
-module _ {counts : Counts} {t : Tables} {s : Snapshot} (room : Room t) (valid : Valid s) (held : Held counts t s) where
-  -- the ids
-  pub held-ids : take (counts .routers) (t .ids) ≡ s .ids
-  held-ids =
-      let e = n-is room valid held in
-      let l = few room valid held in
-      sym (table-take (t .ids) (counts .routers) (omega arith)) ∙ ap (λ (u : Snapshot). u .ids) (sym (held-is room valid held))
-
-  -- the distances
-  pub held-distance : (from to : ℕ) → from < counts .routers → to < counts .routers → cell (t .distances) from to ≡ distance s from to
-  held-distance from to h k = let e = n-is room valid held in cell-is room valid held from to (omega arith) (omega arith)
-
--- two valid snapshots that are held by the same counts and tables are one
-pub held-one : {counts : Counts} {t : Tables} {s u : Snapshot} → Room t → Valid s → Held counts t s → Valid u → Held counts t u → s ≡ u
-held-one room v h w k = held-is room v h ∙ sym (held-is room w k)

@@ -2,7 +2,7 @@
 use Prim.Native.Nat.{ℕ, zero, suc, _+_, _-_, _*_, _≤_, _<_}
 use mathlib.Core.Path.{_≡_}
 use mathlib.Core.Bool.{Bool, true, false, cond, not, _&&_}
-use mathlib.Core.List.{List, _∷_, map}
+use mathlib.Core.List.{List, [], _∷_, map}
 use lib.ListN.{length}
 use lib.Dec.{T, eqb}
 use Rattle.model.specs.Rows.{table, column}
@@ -11,7 +11,7 @@ use Rattle.snapshot.specs.declared.Counts.{Counts}
 use Rattle.snapshot.specs.Limits.{mostRouters, stride, roomDistances, mostPrefixes, mostRoutes}
 use Rattle.snapshot.specs.Ranges.{none, countTests, distanceTests, rises}
 use Rattle.snapshot.specs.Format.{Prefix, Snapshot, pairs, GoodId, GoodRoute, GoodPrefix, Valid}
-use Rattle.snapshot.specs.Tables.{Columns, Tables, Held}
+use Rattle.snapshot.specs.Tables.{Columns, Tables, tables, Held}
 
 -- each column has room for its limit
 pub record RoomRows (c : Columns) : Type 0 where
@@ -25,14 +25,22 @@ pub record RoomRows (c : Columns) : Type 0 where
   pub nid : mostRoutes ≤ length (c .nid)
   pub peer : mostRoutes ≤ length (c .peer)
 
--- each table has room for its limit
-pub record Room (t : Tables) : Type 0 where
-  pub ids : mostRouters ≤ length (t .ids)
-  pub distances : roomDistances ≤ length (t .distances)
+-- so have the tables of prefixes
+pub record RoomPrefixes (t : Tables) : Type 0 where
   pub address : mostPrefixes ≤ length (t .address)
   pub bits : mostPrefixes ≤ length (t .bits)
   pub routes : mostPrefixes ≤ length (t .routes)
   pub rows : RoomRows (t .rows)
+
+-- and all tables
+pub record Room (t : Tables) : Type 0 where
+  pub ids : mostRouters ≤ length (t .ids)
+  pub distances : roomDistances ≤ length (t .distances)
+  pub prefixes : RoomPrefixes t
+
+-- the tables of prefixes alone
+abbrev pub prefixTables : List ℕ → List ℕ → List ℕ → Columns → Tables
+prefixTables address bits routes rows = tables [] [] address bits routes rows
 
 -- ---- the only snapshot that they can hold
 
@@ -81,6 +89,12 @@ snapshotOf counts t = record {
 
 -- ---- what each part must obey
 
+-- counts in their ranges
+pub record InRange (counts : Counts) : Type 0 where
+  pub routers : T (none (countTests (counts .routers)))
+  pub prefixes : counts .prefixes ≤ mostPrefixes
+  pub routes : counts .routes ≤ mostRoutes
+
 -- the id of a router, after those of the routers before it
 abbrev pub IdGood : List ℕ → ℕ → Type 0
 IdGood ids k = GoodId (table k (column ids)) (column ids k)
@@ -112,15 +126,12 @@ Below n P = (k : ℕ) → k < n → P k
 abbrev pub Totalled : Counts → Tables → Type 0
 Totalled counts t = Below (counts .prefixes) (PrefixGood (counts .routers) t) × (start (t .routes) (counts .prefixes) ≡ counts .routes)
 
--- all of them, and that the prefixes' numbers of routes add up
+-- all of them
 pub record Parts (counts : Counts) (t : Tables) : Type 0 where
-  pub count : T (none (countTests (counts .routers)))
-  pub fewPrefixes : counts .prefixes ≤ mostPrefixes
-  pub fewRoutes : counts .routes ≤ mostRoutes
+  pub range : InRange counts
   pub ids : Below (counts .routers) (IdGood (t .ids))
   pub distances : Below (counts .routers) (λ from. Below (counts .routers) (CellGood (t .distances) from))
-  pub prefixes : Below (counts .prefixes) (PrefixGood (counts .routers) t)
-  pub total : start (t .routes) (counts .prefixes) ≡ counts .routes
+  pub prefixes : Totalled counts t
 
 -- ---- judgements
 

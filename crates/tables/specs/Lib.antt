@@ -3,3 +3,4 @@ pub mod ListsLaws
 pub mod HeldLaws
 pub mod PartsLaws
 pub mod JudgeLaws
+pub mod Theorems

@@ -21,22 +21,22 @@ use Rattle.snapshot.specs.Format.{Prefix, Snapshot, Pair, pairs, pairsBefore, d
 use Rattle.snapshot.specs.Tables.{Columns, Tables, columns, tables, used, putDistances, putRoutes, allRoutes, filled, countsOf, Held}
 use Rattle.snapshot.specs.ChecksLaws.{count-range}
 use Rattle.snapshot.specs.PairsLaws.{pairs-length, pair-of}
-use Rattle.tables.specs.Judging.{Room, RoomRows, routeAt, start, routesAt, prefixAt, cell, snapshotOf, Below, cellTests, CellGood, IdGood, PrefixGood, Parts, Decides, Holding, Judged}
+use Rattle.tables.specs.Judging.{Room, RoomRows, routeAt, start, routesAt, prefixAt, cell, snapshotOf, Below, cellTests, CellGood, IdGood, PrefixGood, InRange, Totalled, Parts, Decides, Holding, Judged}
 use Rattle.tables.specs.ListsLaws.{table-append, table-snoc, as-table, map-at, each-below, below-each, stays}
-use Rattle.tables.specs.HeldLaws.{pair-two, no-pair, cells, cells-at, distance-apart, distance-equal, length-all, all-append, held-is, held-distance}
+use Rattle.tables.specs.HeldLaws.{pair-two, no-pair, cells, cells-at, distance-apart, distance-equal, length-all, all-append, held-is, cell-is, n-is}
 
 -- ---- a cell of the distances
 
-pub cell-zero : (from to d : ℕ) → T (none (cellTests from to d)) → from ≡ to → d ≡ 0
-cell-zero from to d t e =
-    let off : (eqb from to && not (eqb d 0)) ≡ false = none-split (eqb from to && not (eqb d 0)) (distanceTests d) t .0 in
-    let z : not (eqb d 0) ≡ false = rw (eq-eqb from to e) at off in
-    eqb-true d 0 (not-false (eqb d 0) z)
+pub and-zero : (b : Bool) (d : ℕ) → (b && not (eqb d 0)) ≡ false → b ≡ true → d ≡ 0
+and-zero b d off e = eqb-true d 0 (not-false (eqb d 0) (rw e at off))
+
+cell-zero : (from to d : ℕ) → T (none (cellTests from to d)) → from ≡ to → d ≡ 0
+cell-zero from to d t e = and-zero (eqb from to) d (none-split (eqb from to && not (eqb d 0)) (distanceTests d) t .0) (eq-eqb from to e)
 
 cell-range : (from to d : ℕ) → T (none (cellTests from to d)) → T (none (distanceTests d))
 cell-range from to d t = none-split (eqb from to && not (eqb d 0)) (distanceTests d) t .1
 
-pub cell-good : (from to d : ℕ) → (from ≡ to → d ≡ 0) → T (none (distanceTests d)) → T (none (cellTests from to d))
+cell-good : (from to d : ℕ) → (from ≡ to → d ≡ 0) → T (none (distanceTests d)) → T (none (cellTests from to d))
 cell-good from to d h t = none-cons (distanceTests d) (off (eqb from to) refl) t
   where
     off : (b : Bool) → eqb from to ≡ b → (eqb from to && not (eqb d 0)) ≡ false
@@ -95,7 +95,7 @@ module _ {counts : Counts} {t : Tables} (room : Room t) (parts : Parts counts t)
   n-long = table-length (counts .routers) (column (t .ids))
 
   total-is : routesIn (s .prefixes) ≡ counts .routes
-  total-is = routes-table t (counts .prefixes) ∙ parts .total
+  total-is = routes-table t (counts .prefixes) ∙ parts .prefixes .1
 
   distance-is : (from to : ℕ) → from < counts .routers → to < counts .routers → distance s from to ≡ cell (t .distances) from to
   distance-is from to h k =
@@ -126,9 +126,9 @@ module _ {counts : Counts} {t : Tables} (room : Room t) (parts : Parts counts t)
 
   pub parts-held : Held counts t s
   parts-held =
-      let n = count-range (counts .routers) (parts .count) in
-      let most = parts .fewPrefixes in
-      let fits = parts .fewRoutes in (
+      let n = count-range (counts .routers) (parts .range .routers) in
+      let most = parts .range .prefixes in
+      let fits = parts .range .routes in (
         counts-are counts n-long (table-length (counts .prefixes) (prefixAt t)) total-is,
         tables-are t
             (stays (t .ids) (counts .routers) (omega arith))
@@ -137,8 +137,8 @@ module _ {counts : Counts} {t : Tables} (room : Room t) (parts : Parts counts t)
             (field-stays (λ p. p .bits) (prefixAt t) (t .bits) (counts .prefixes) (omega arith) (λ k l. refl))
             (field-stays (λ p. length (p .routes)) (prefixAt t) (t .routes) (counts .prefixes) (omega arith)
             (λ k l. table-length (column (t .routes) k) (λ q. routeAt (t .rows) (start (t .routes) k + q))))
-            (ap (putRoutes (t .rows) 0) (all-table t (counts .prefixes) ∙ ap (λ (n : ℕ). table n (routeAt (t .rows))) (parts .total))
-            ∙ rows-stay (t .rows) (counts .routes) (room .rows) fits),
+            (ap (putRoutes (t .rows) 0) (all-table t (counts .prefixes) ∙ ap (λ (n : ℕ). table n (routeAt (t .rows))) (parts .prefixes .1))
+            ∙ rows-stay (t .rows) (counts .routes) (room .prefixes .rows) fits),
       )
 
   distances-good : Each GoodDistance [] (s .distances)
@@ -157,13 +157,13 @@ module _ {counts : Counts} {t : Tables} (room : Room t) (parts : Parts counts t)
 
   pub parts-valid : Valid s
   parts-valid = record {
-    count = rw n-long (parts .count);
+    count = rw n-long (parts .range .routers);
     ids = below-each GoodId (column (t .ids)) (counts .routers) (parts .ids);
     square = rw n-long (length-map (pairs (counts .routers)) _ ∙ pairs-length (counts .routers));
     distances = distances-good;
-    fewPrefixes = rw (table-length (counts .prefixes) (prefixAt t)) (parts .fewPrefixes);
-    fewRoutes = rw total-is (parts .fewRoutes);
-    prefixes = rw n-long (below-each (GoodPrefix (counts .routers)) (prefixAt t) (counts .prefixes) (parts .prefixes));
+    fewPrefixes = rw (table-length (counts .prefixes) (prefixAt t)) (parts .range .prefixes);
+    fewRoutes = rw total-is (parts .range .routes);
+    prefixes = rw n-long (below-each (GoodPrefix (counts .routers)) (prefixAt t) (counts .prefixes) (parts .prefixes .0));
   }
 
 -- ---- from a snapshot to the parts
@@ -177,7 +177,8 @@ module _ {counts : Counts} {t : Tables} (room : Room t) (valid : Valid (snapshot
       let n : ℕ = counts .routers in
       let ds : List ℕ = cells (t .distances) n in
       let d : ℕ = cell (t .distances) from to in
-      let is = held-distance room valid held from to h k in
+      let e = n-is room valid held in
+      let is = cell-is room valid held from to (omega arith) (omega arith) in
       by (eqb from to)
       (λ e. let z : d ≡ 0 = is ∙ distance-equal (snapshotOf counts t) from to (eqb-true from to e) in record { ranges = cell-good from to d (λ _. z) (rw z tt) })
       (λ e. let ne = eqb-false from to e in
@@ -191,13 +192,17 @@ module _ {counts : Counts} {t : Tables} (room : Room t) (valid : Valid (snapshot
   obeyed =
       let sum : counts .routes ≡ routesIn (table (counts .prefixes) (prefixAt t)) = ap (λ (c : Counts). c .routes) (held .0) in
       record {
-        count = rw long at (valid .count);
-        fewPrefixes = rw (table-length (counts .prefixes) (prefixAt t)) at (valid .fewPrefixes);
-        fewRoutes = rw (sym sum) at (valid .fewRoutes);
+        range = record {
+          routers = rw long at (valid .count);
+          prefixes = rw (table-length (counts .prefixes) (prefixAt t)) at (valid .fewPrefixes);
+          routes = rw (sym sum) at (valid .fewRoutes);
+        };
         ids = each-below GoodId (column (t .ids)) (counts .routers) (valid .ids);
         distances = cells-good;
-        prefixes = each-below (GoodPrefix (counts .routers)) (prefixAt t) (counts .prefixes) (rw long at (valid .prefixes));
-        total = sym (routes-table t (counts .prefixes)) ∙ sym sum;
+        prefixes = (
+          each-below (GoodPrefix (counts .routers)) (prefixAt t) (counts .prefixes) (rw long at (valid .prefixes)),
+          sym (routes-table t (counts .prefixes)) ∙ sym sum,
+        );
       }
 
 -- where counts and tables hold a snapshot, each part obeys
@@ -212,8 +217,14 @@ parts-holding {counts} {t} room parts = record { snapshot = snapshotOf counts t;
 -- ---- judgements
 
 module _ {counts : Counts} {t : Tables} (room : Room t) where
-  pub judged-yes : Parts counts t → Judged counts t true
-  judged-yes parts = record { yes = λ _. parts-holding room parts; no = λ e. absurd (true≢false e) }
-
+  -- one part that does not obey
   pub judged-no : (Parts counts t → ⊥) → Judged counts t false
   judged-no f = record { yes = λ e. absurd (false≢true e); no = λ _ h. f (holding-parts room h) }
+
+  -- the last part decides, where the others obey
+  pub judged-last : {answer : Bool} → InRange counts → Below (counts .routers) (IdGood (t .ids))
+      → Below (counts .routers) (λ from. Below (counts .routers) (CellGood (t .distances) from)) → Decides (Totalled counts t) answer → Judged counts t answer
+  judged-last c i d last = record {
+    yes = λ e. parts-holding room (record { range = c; ids = i; distances = d; prefixes = last .yes e });
+    no = λ e h. last .no e (holding-parts room h .prefixes);
+  }

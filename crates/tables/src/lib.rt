@@ -4,13 +4,22 @@ ghost use mathlib.Core.Path.{_≡_};
 ghost use Prim.Native.Nat.{_+_, _≤_, _<_};
 ghost use lib.ListN.{length};
 ghost use lib.Dec.{eqb};
-ghost use Rattle.model.specs.Rows.{some, table};
+ghost use Rattle.model.specs.Rows.{some, table, column};
 ghost use Rattle.model.specs.Lent.{was, col};
 ghost use Rattle.snapshot.specs.Limits.{mostRouters, roomDistances, mostPrefixes, mostRoutes};
 ghost use Rattle.snapshot.specs.Ranges.{anyOf};
 ghost use Rattle.snapshot.specs.Plain.{routeIs};
 ghost use Rattle.snapshot.specs.Tables.{columns, tables};
-ghost use Rattle.tables.specs.Judging.{RoomRows, Room, routeAt, start, cellTests, lateAt, IdGood, CellGood, RouteGood, PrefixGood, Below, Decides, Totalled, Judged};
+ghost use Rattle.tables.specs.Judging.{RoomRows, RoomPrefixes, Room, prefixTables, routeAt, start, cellTests, lateAt, IdGood, CellGood, RouteGood, PrefixGood, Below, InRange, Totalled, Decides, Judged};
+
+// Whether counts are in their ranges.
+fn counts_good(counts: snapshot::Counts) -> bool
+    ensures { λ r. ⌜ Decides (InRange counts) r ⌝ }
+{
+    !(snapshot::count_bad(counts.routers)
+        | (snapshot::MOST_PREFIXES < counts.prefixes)
+        | (snapshot::MOST_ROUTES < counts.routes))
+}
 
 // Whether an id is one of the first k.
 fn twin(ids: &[u32], k: usize, id: u32) -> bool
@@ -118,4 +127,187 @@ pub fn route_at(
         nid: nid[row],
         peer: peer[row],
     }
+}
+
+// Whether so many routes from a row on are in their ranges, and rise.
+fn routes_good(
+    routers: u32,
+    router: &[u32],
+    asn: &[u32],
+    preference: &[u32],
+    path: &[u32],
+    origin: &[u32],
+    mark: &[u32],
+    med: &[u32],
+    nid: &[u32],
+    peer: &[u32],
+    at: usize,
+    count: usize,
+) -> bool
+    requires { ⌜ (routers ≤ mostRouters) × (at + count ≤ mostRoutes) × RoomRows (columns (now router) (now asn) (now preference) (now path) (now origin) (now mark) (now med) (now nid) (now peer)) ⌝ }
+    ensures { λ r. ⌜ Decides (Below count (RouteGood routers (columns (was router) (was asn) (was preference) (was path) (was origin) (was mark) (was med) (was nid) (was peer)) at)) r ⌝ }
+{
+    let mut k = 0;
+    while k < count {
+        let r = route_at(
+            router,
+            asn,
+            preference,
+            path,
+            origin,
+            mark,
+            med,
+            nid,
+            peer,
+            at + k,
+        );
+        if snapshot::route_bad(routers, r) | late_at(router, peer, at, at + k) {
+            return false;
+        }
+        k += 1;
+    }
+    true
+}
+
+// Whether a prefix is in its ranges and rises, with its routes, which start at a row.
+fn prefix_good(
+    routers: u32,
+    address: &[u32],
+    bits: &[u32],
+    routes: &[u32],
+    router: &[u32],
+    asn: &[u32],
+    preference: &[u32],
+    path: &[u32],
+    origin: &[u32],
+    mark: &[u32],
+    med: &[u32],
+    nid: &[u32],
+    peer: &[u32],
+    p: usize,
+    at: usize,
+) -> bool
+    requires { ⌜ (routers ≤ mostRouters) × (p < mostPrefixes) × (at + column (now routes) p ≤ mostRoutes) × (at ≡ start (now routes) p)
+        × RoomPrefixes (prefixTables (now address) (now bits) (now routes) (columns (now router) (now asn) (now preference) (now path) (now origin) (now mark) (now med) (now nid) (now peer))) ⌝ }
+    ensures { λ r. ⌜ Decides (PrefixGood routers (prefixTables (was address) (was bits) (was routes) (columns (was router) (was asn) (was preference) (was path) (was origin) (was mark) (was med) (was nid) (was peer))) p) r ⌝ }
+{
+    let count = routes[p];
+    if (snapshot::MOST_IN_PREFIX < count)
+        | snapshot::prefix_bad(address[p], bits[p])
+        | late_at(address, bits, 0, p)
+    {
+        return false;
+    }
+    routes_good(
+        routers,
+        router,
+        asn,
+        preference,
+        path,
+        origin,
+        mark,
+        med,
+        nid,
+        peer,
+        at,
+        count as usize,
+    )
+}
+
+// Whether the prefixes are in their ranges and rise, with their routes, and their numbers of routes add up.
+fn prefixes_good(
+    counts: snapshot::Counts,
+    address: &[u32],
+    bits: &[u32],
+    routes: &[u32],
+    router: &[u32],
+    asn: &[u32],
+    preference: &[u32],
+    path: &[u32],
+    origin: &[u32],
+    mark: &[u32],
+    med: &[u32],
+    nid: &[u32],
+    peer: &[u32],
+) -> bool
+    requires { ⌜ InRange counts × RoomPrefixes (prefixTables (now address) (now bits) (now routes) (columns (now router) (now asn) (now preference) (now path) (now origin) (now mark) (now med) (now nid) (now peer))) ⌝ }
+    ensures { λ r. ⌜ Decides (Totalled counts (prefixTables (was address) (was bits) (was routes) (columns (was router) (was asn) (was preference) (was path) (was origin) (was mark) (was med) (was nid) (was peer)))) r ⌝ }
+{
+    let mut at = 0;
+    let mut p = 0;
+    while p < counts.prefixes as usize {
+        let next = at + routes[p] as usize;
+        if (counts.routes as usize) < next {
+            return false;
+        }
+        if !prefix_good(
+            counts.routers,
+            address,
+            bits,
+            routes,
+            router,
+            asn,
+            preference,
+            path,
+            origin,
+            mark,
+            med,
+            nid,
+            peer,
+            p,
+            at,
+        ) {
+            return false;
+        }
+        at = next;
+        p += 1;
+    }
+    at == counts.routes as usize
+}
+
+// Whether counts and tables are those of some snapshot.
+pub fn judge(
+    counts: snapshot::Counts,
+    ids: &[u32],
+    distances: &[u32],
+    address: &[u32],
+    bits: &[u32],
+    routes: &[u32],
+    router: &[u32],
+    asn: &[u32],
+    preference: &[u32],
+    path: &[u32],
+    origin: &[u32],
+    mark: &[u32],
+    med: &[u32],
+    nid: &[u32],
+    peer: &[u32],
+) -> bool
+    requires { ⌜ Room (tables (now ids) (now distances) (now address) (now bits) (now routes) (columns (now router) (now asn) (now preference) (now path) (now origin) (now mark) (now med) (now nid) (now peer))) ⌝ }
+    ensures { λ r. ⌜ Judged counts (tables (was ids) (was distances) (was address) (was bits) (was routes) (columns (was router) (was asn) (was preference) (was path) (was origin) (was mark) (was med) (was nid) (was peer))) r ⌝ }
+{
+    if !counts_good(counts) {
+        return false;
+    }
+    if !ids_good(counts.routers as usize, ids) {
+        return false;
+    }
+    if !distances_good(counts.routers as usize, distances) {
+        return false;
+    }
+    prefixes_good(
+        counts,
+        address,
+        bits,
+        routes,
+        router,
+        asn,
+        preference,
+        path,
+        origin,
+        mark,
+        med,
+        nid,
+        peer,
+    )
 }
