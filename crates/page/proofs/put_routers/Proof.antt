@@ -57,4 +57,7 @@ loop-again c =
 
 pub put-routers-spec : {M : Type 1} → statement M
 put-routers-spec =
-    tie.close (tie.spec Inv-loop μ-loop (λ c. search lined) (λ c. search needs) (λ c. search needs) (λ c. search needs) (λ c. search needs) (λ c. search needs) put-router-requires (λ c. search needs) (λ c. search needs) loop-again (λ c. search needs) (λ c. search lined-end))
+    tie.close (tie.spec Inv-loop μ-loop (λ c. search lined) (λ c. search needs) (λ c. search needs) (λ c. search needs) (λ c. search needs) (λ c. search needs) put-router-requires (λ c. search needs) (λ c. search needs) loop-again (λ c. search needs) (λ c.
+    let here : tie.At-loop Inv-loop μ-loop = search needs in
+    let over : tie.After-loop Inv-loop μ-loop = search needs in
+    lined-end (here .loop .inv) (over .loop-test .left)))
