@@ -1,24 +1,29 @@
 -- The promise of a forecast determines its answer and both areas, and its number says whether a second stable assignment exists.
 use Prim.Native.Nat.{ℕ, _≤_, _<_}
 use native.Mathlib.Omega.{arith}
-use mathlib.Core.Path.{_≡_, refl, sym, ap, ap₂, subst, _∙_}
-use mathlib.Core.Logic.{_↔_}
+use mathlib.Core.Path.{_≡_, refl, sym, ap, ap₂, subst, _∙_, fun-ext}
+use mathlib.Core.Logic.{_↔_, inl, inr}
 use mathlib.Core.Bool.{Bool, true, false, true≢false, false≢true}
-use mathlib.Core.List.{List}
-use lib.ListN.{length, getD}
-use lib.Dec.{ltb}
-use borrow.Author.Tests.{ltb-false}
-use lib.Seq.{sets}
+use mathlib.Core.List.{List, map}
+use lib.ListN.{length, getD, length-map, List·getD-eq-default}
+use lib.Dec.{eqb, ltb}
+use borrow.Author.Tests.{ltb-false, eqb-true}
+use lib.Seq.{sets, getD-take}
 use Rattle.snapshot.specs.declared.Counts.{Counts}
 use Rattle.snapshot.specs.Format.{Snapshot, Valid}
 use Rattle.snapshot.specs.Limits.{mostRouters}
 use Rattle.snapshot.specs.Ranges.{anyOf}
 use Rattle.snapshot.specs.RangesLaws.{none-at, none-any}
-use Rattle.snapshot.specs.Tables.{Tables, Held, mesh}
-use Rattle.tables.specs.HeldLaws.{held-one}
+use Rattle.snapshot.specs.Tables.{Tables, Held, routesOf, mesh}
+use Rattle.tables.specs.Theorems.{held-one, held-ids, held-distance, absent-zero, sound}
 use Rattle.tables.specs.Judging.{Room}
-use Rattle.model.specs.Stability.{Sound, Between, Only}
-use Rattle.model.specs.Theorems.{pair-determined, settled-only}
+use Rattle.model.specs.Decision.{Route, Mesh, metric}
+use Rattle.model.specs.Stability.{Between, Only}
+use Rattle.model.specs.Contest.{early, late}
+use Rattle.model.specs.Columns.{Columns, columns, lentMesh}
+use Rattle.model.specs.MeshLaws.{Alike, sound-alike, between-alike}
+use Rattle.model.specs.RowLaws.{by, le-or-lt}
+use Rattle.model.specs.Theorems.{forecast, pair-determined, settled-only}
 use Rattle.outlook.specs.declared.Differing.{Differing}
 use Rattle.outlook.specs.declared.Outlook.{Outlook}
 use Rattle.outlook.specs.declared.Outlook.the-variants.{Forecast, Refused}
@@ -59,9 +64,6 @@ module _ (t : Tables) (early late : List ℕ) (enough : anyOf (shortOf t early l
   pub late-room : mostRouters ≤ length late
   late-room = long 15 _ _ refl
 
-sound : (s : Snapshot) → Valid s → (p : ℕ) → p < length (s .prefixes) → Sound (mesh s p)
-sound = ?
-
 -- ---- one answer
 
 -- the same answer and the same areas
@@ -92,7 +94,7 @@ forecasts-one {t} {p} {early} {late} (given h s v i m e l b) (noPrefix k u w j o
 forecasts-one {t} {p} {early} {late} (given h s v i m e l b) (given k u w j o e′ l′ b′) =
     let same = held-one (has-room t early late h) w j v i in
     let there : Between (mesh s p) e′ l′ = subst (λ (x : Snapshot). Between (mesh x p) e′ l′) same b′ in
-    let pair = pair-determined (mesh s p) (sound s v p m) e l e′ l′ b there in
+    let pair = pair-determined (mesh s p) (sound v p m) e l e′ l′ b there in
     record {
       answer = ap₂ (λ (x y : List ℕ). Forecast (differingOf (mesh s p) x y)) (pair .0) (pair .1)
           ∙ ap (λ (x : Snapshot). Forecast (differingOf (mesh x p) e′ l′)) (sym same);
@@ -105,5 +107,51 @@ forecasts-one {t} {p} {early} {late} (given h s v i m e l b) (given k u w j o e�
 -- a forecast is settled exactly when its number is 0, and then no second stable assignment exists
 pub settled : (s : Snapshot) (p : ℕ) → Valid s → p < length (s .prefixes) → (e l : List ℕ) → Between (mesh s p) e l
     → (differingOf (mesh s p) e l .number ≡ 0) ↔ Only (mesh s p)
-settled s p v m e l b = settled-only (mesh s p) (sound s v p m) e l b
+settled s p v m e l b = settled-only (mesh s p) (sound v p m) e l b
 
+-- ---- the forecast of lent columns
+
+-- the columns of a prefix's routes, with MEDs as they stand
+abbrev pub columnsOf : List Route → Columns
+columnsOf rs = columns
+    (map (λ r. r .router) rs) (map (λ r. r .asn) rs) (map (λ r. r .preference) rs) (map (λ r. r .path) rs)
+    (map (λ r. r .origin) rs) (map (λ r. r .med) rs) (map (λ r. r .nid) rs) (map (λ r. r .peer) rs)
+
+module _ {counts : Counts} {t : Tables} {s : Snapshot} (enough : Room t) (valid : Valid s) (held : Held counts t s) (p : ℕ) (below : p < length (s .prefixes)) where
+  -- what the code decides the prefix on
+  abbrev pub lent : Mesh
+  lent = lentMesh (counts .routers) (t .ids) (t .distances) (columnsOf (routesOf s p))
+
+  -- a MED that is absent is stored as 0, so it counts as it stands
+  same-metric : (q : ℕ) → metric lent q ≡ metric (mesh s p) q
+  same-metric q = by (eqb (mesh s p .mark q) 0)
+      (λ e. elim (le-or-lt (length (routesOf s p)) q) [
+        | inl l ↦ (let z = List·getD-eq-default (map (λ r. r .med) (routesOf s p)) 0 {n = q} (omega (arith, length-map (routesOf s p) (λ r. r .med))) in rw e z)
+        | inr l ↦ rw e (absent-zero valid p below q l (eqb-true (mesh s p .mark q) 0 e))
+      ])
+      (λ e. rw e)
+
+  pub lent-alike : Alike lent (mesh s p)
+  lent-alike = record {
+    routers = n;
+    rows = length-map (routesOf s p) (λ r. r .router);
+    router = refl;
+    asn = refl;
+    preference = refl;
+    path = refl;
+    origin = refl;
+    metric = fun-ext same-metric;
+    nid = refl;
+    peer = refl;
+    id = λ r l. sym (getD-take (counts .routers) (t .ids) r 0 l) ∙ ap (λ (ids : List ℕ). getD ids r 0) (held-ids enough valid held);
+    distance = λ a b h k. held-distance enough valid held a b h k;
+  }
+    where
+      n : counts .routers ≡ length (s .ids)
+      n = ap (λ (c : Counts). c .routers) (held .0)
+
+  -- early and late of what the code decides on are early and late of that prefix of the snapshot
+  pub lent-between : Between (mesh s p) (early lent) (late lent)
+  lent-between =
+      let known = sound-alike lent (mesh s p) lent-alike (sound valid p below) in
+      between-alike lent (mesh s p) lent-alike known (early lent) (late lent) (forecast lent known)
