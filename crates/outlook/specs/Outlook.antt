@@ -4,7 +4,7 @@ use mathlib.Core.Path.{_≡_}
 use mathlib.Core.Bool.{Bool, true, false}
 use mathlib.Core.List.{List, [], _∷_, _++_}
 use lib.Dec.{ltb}
-use lib.ListN.{length}
+use lib.ListN.{length, take, drop}
 use lib.Seq.{sets}
 use Rattle.refusal.specs.declared.Refusal.the-variants.{Room, Table, NoPrefix}
 use Rattle.snapshot.specs.declared.Counts.{Counts}
@@ -12,6 +12,9 @@ use Rattle.snapshot.specs.Limits.{mostRouters}
 use Rattle.snapshot.specs.Ranges.{anyOf}
 use Rattle.snapshot.specs.Format.{Snapshot, Valid}
 use Rattle.snapshot.specs.Tables.{Tables, short, Held, mesh}
+use Rattle.tables.specs.Judging.{start}
+use Rattle.model.specs.Rows.{column}
+use Rattle.model.specs.Columns.{Columns, columns}
 use Rattle.model.specs.Decision.{Mesh}
 use Rattle.model.specs.Stability.{Between, differing}
 use Rattle.word.specs.Word.{word}
@@ -22,6 +25,16 @@ use Rattle.outlook.specs.declared.Outlook.the-variants.{Forecast, Refuse
 -- ROOM: which of the tables is shorter than its limit, or which answer area shorter than 64 entries
 abbrev pub shortOf : Tables → List ℕ → List ℕ → List Bool
 shortOf t early late = short t ++ (ltb (length early) mostRouters ∷ ltb (length late) mostRouters ∷ [])
+
+-- so many entries of a list, from one on
+abbrev pub part : ℕ → ℕ → List ℕ → List ℕ
+part at n xs = take n (drop at xs)
+
+-- a prefix's part of each column
+abbrev pub parts : List ℕ → ℕ → Columns → Columns
+parts routes p c =
+    let cut : List ℕ → List ℕ = part (start routes p) (column routes p) in
+    columns (cut (c .router)) (cut (c .asn)) (cut (c .preference)) (cut (c .path)) (cut (c .origin)) (cut (c .med)) (cut (c .nid)) (cut (c .peer))
 
 -- the word of the routers whose two rows differ, with the number of its ones
 abbrev pub differingOf : Mesh → List ℕ → List ℕ → Differing

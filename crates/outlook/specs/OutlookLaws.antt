@@ -15,7 +15,7 @@ use Rattle.snapshot.specs.Limits.{mostRouters}
 use Rattle.snapshot.specs.Ranges.{anyOf}
 use Rattle.snapshot.specs.RangesLaws.{none-at, none-any}
 use Rattle.snapshot.specs.Tables.{Tables, Held, routesOf, mesh}
-use Rattle.tables.specs.Theorems.{held-one, held-ids, held-distance, absent-zero, sound}
+use Rattle.tables.specs.Theorems.{held-one, held-ids, held-distance, held-count, held-column, absent-zero, sound}
 use Rattle.tables.specs.Judging.{Room}
 use Rattle.model.specs.Decision.{Route, Mesh, metric}
 use Rattle.model.specs.Stability.{Between, Only}
@@ -27,7 +27,7 @@ use Rattle.model.specs.Theorems.{forecast, pair-determined, settled-only}
 use Rattle.outlook.specs.declared.Differing.{Differing}
 use Rattle.outlook.specs.declared.Outlook.{Outlook}
 use Rattle.outlook.specs.declared.Outlook.the-variants.{Forecast, Refused}
-use Rattle.outlook.specs.Outlook.{Forecasts, room, table, noPrefix, given, differingOf, shortOf}
+use Rattle.outlook.specs.Outlook.{Forecasts, room, table, noPrefix, given, differingOf, shortOf, parts}
 
 -- ---- room
 
@@ -121,6 +121,27 @@ module _ {counts : Counts} {t : Tables} {s : Snapshot} (enough : Room t) (valid 
   -- what the code decides the prefix on
   abbrev pub lent : Mesh
   lent = lentMesh (counts .routers) (t .ids) (t .distances) (columnsOf (routesOf s p))
+
+  abbrev whole : Columns
+  whole = columns (t .rows .router) (t .rows .asn) (t .rows .preference) (t .rows .path) (t .rows .origin) (t .rows .med) (t .rows .nid) (t .rows .peer)
+
+  -- the prefix's part of each column holds its routes
+  pub parts-are : parts (t .routes) p whole ≡ columnsOf (routesOf s p)
+  parts-are =
+      let b : p < counts .prefixes = omega (arith, ap (λ (c : Counts). c .prefixes) (held .0)) in
+      let k = held-count enough valid held p b in
+      let room = enough .prefixes .rows in
+      rw (
+        k,
+        held-column enough valid held p b (λ r. r .router) (t .rows .router) (λ q. refl) (room .router),
+        held-column enough valid held p b (λ r. r .asn) (t .rows .asn) (λ q. refl) (room .asn),
+        held-column enough valid held p b (λ r. r .preference) (t .rows .preference) (λ q. refl) (room .preference),
+        held-column enough valid held p b (λ r. r .path) (t .rows .path) (λ q. refl) (room .path),
+        held-column enough valid held p b (λ r. r .origin) (t .rows .origin) (λ q. refl) (room .origin),
+        held-column enough valid held p b (λ r. r .med) (t .rows .med) (λ q. refl) (room .med),
+        held-column enough valid held p b (λ r. r .nid) (t .rows .nid) (λ q. refl) (room .nid),
+        held-column enough valid held p b (λ r. r .peer) (t .rows .peer) (λ q. refl) (room .peer),
+      )
 
   -- a MED that is absent is stored as 0, so it counts as it stands
   same-metric : (q : ℕ) → metric lent q ≡ metric (mesh s p) q
