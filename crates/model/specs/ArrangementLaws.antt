@@ -12,6 +12,7 @@ use Rattle.model.specs.Decision.{Mesh, none, all, ownOf, metric, beats, 
 use Rattle.model.specs.Stability.{contenders, before, standing}
 use Rattle.model.specs.Contest.{Contest, leastOr, end, passed, firstFree, refine, repeat, beatsOwnBy, aheadBy, contending, placeOf, contest, atPlace}
 use Rattle.model.specs.Lent.{on, rowsOf}
+use Rattle.model.specs.Columns.{Columns, routesMesh}
 use Rattle.model.specs.Arrangement.{alikeBy, groupBy, placeBy, listed, standsAt}
 use Rattle.model.specs.LoopLaws.{by, both, keep-keep, table-same, table-at}
 use Rattle.model.specs.ColumnLaws.{Among, among-keep, among-rows, Agree, agree-keep, keep-agree, some-agree, least-or-agree, column-table}
@@ -215,3 +216,28 @@ module _ (M : Mesh) (r : ℕ) where
       ap (leastOr none (λ q. q)) (keep-agree (λ q. eqb (standing M r q) (getD x r 0)) (λ q. eqb (placeOf M q) (getD x r 0)) (contenders M r)
       (λ q m. ap (λ (k : ℕ). eqb k (getD x r 0)) (standing-is q m)))
       ∙ ap (λ (rows : List ℕ). leastOr none (λ q. q) (keep (λ q. eqb (placeOf M q) (getD x r 0)) rows)) contenders-are
+
+-- what the code finds of contenders: by the flags of all rows, of the preferred, and of those that no group beats
+pub contending-is : (t : Columns) (routers : ℕ) (kept : List Bool) {every free : List ℕ} {group : List ℕ}
+    → every ≡ span 0 (length (t .router)) → length kept ≡ length (t .router)
+    → rowsOf kept ≡ preferred (routesMesh routers t) every
+    → group ≡ table (length (t .router)) (groupBy (column (t .router)) (column (t .asn)))
+    → free ≡ unbeatenBy (beatsBy (column group) (column (t .med))) (rowsOf kept) (rowsOf kept)
+    → free ≡ contending (routesMesh routers t)
+contending-is t routers kept {group} a l k g f =
+    let M = routesMesh routers t in
+    let n = length (t .router) in
+    let stored : ℕ → ℕ = column (table n (groupBy (column (t .router)) (column (t .asn)))) in
+    f
+    ∙ ap (λ (xs : List ℕ). unbeatenBy (beatsBy (column xs) (column (t .med))) (rowsOf kept) (rowsOf kept)) g
+    ∙ unbeaten-agree (beatsBy stored (column (t .med))) (beatsOwnBy (M .router) (M .asn) (metric M)) (rowsOf kept) (rowsOf kept)
+    (λ q m p m′. beats-own-grouped (column (t .asn)) (column (t .med)) (column (t .router)) n p q
+    (let h = among-rows kept p m′ in omega arith) (let h = among-rows kept q m in omega arith))
+    ∙ ap (λ (rows : List ℕ). unbeatenBy (beatsOwnBy (M .router) (M .asn) (metric M)) rows rows) (k ∙ ap (preferred M) a)
+
+-- a stored group is a row
+pub group-within : (a b : ℕ → ℕ) (n most : ℕ) {group : List ℕ} → group ≡ table n (groupBy a b) → n ≤ most → (q : ℕ) → q < n → column group q < most
+group-within a b n most g m q l =
+    let e = ap (λ (xs : List ℕ). column xs q) g ∙ table-at (groupBy a b) 0 n q l in
+    let h = group-le a b q in
+    omega arith
