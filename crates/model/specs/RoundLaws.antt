@@ -1,5 +1,5 @@
 -- Laws of rounds: how a round is made of flags, and how rounds are repeated.
-use Prim.Native.Nat.{ℕ, zero, suc, _+_, _-_, _≤_, _<_, zero-le}
+use Prim.Native.Nat.{ℕ, zero, suc, _+_, _-_, _≤_, _<_, zero-le, min}
 use native.Mathlib.Nat.{sub-zero}
 use native.Mathlib.Omega.{arith}
 use mathlib.Core.Path.{_≡_, refl, sym, ap, _∙_, fun-ext}
@@ -12,7 +12,7 @@ use Rattle.model.specs.Decision.{beatsBy, unbeatenBy}
 use Rattle.model.specs.Contest.{Contest, leastOr, end, passed, firstFree, refine, repeat}
 use Rattle.model.specs.Lent.{rowsOf}
 use Rattle.model.specs.Arrangement.{listed, nextBy, Ready}
-use Rattle.model.specs.LoopLaws.{keep-keep, table-same, table-at}
+use Rattle.model.specs.LoopLaws.{keep-keep, table-same, table-at, least-past}
 
 -- the three parts of a round: what is passed, what that leaves free, and the first of it
 module _ {router place group med : List ℕ} {contends : List Bool} {ends : List ℕ} (ready : Ready router place group med contends ends) where
@@ -32,6 +32,14 @@ module _ {router place group med : List ℕ} {contends : List Bool} {ends : List
       let rows-are : keep own (rowsOf free) ≡ keep (λ q. own q && clear q) (rowsOf contends) =
       ap (keep own) frees-are ∙ keep-keep own clear (rowsOf contends) ∙ ap (λ (t : ℕ → Bool). keep t (rowsOf contends)) (fun-ext (λ q. and-comm (clear q) (own q))) in
       rw (ends-are, rows-are)
+
+-- the first free place of each router, by a table of least places that starts past all ends
+pub advanced : (router place : List ℕ) (free : List Bool) (ends : List ℕ) (next : ℕ → ℕ) (past : ℕ) → ((r : ℕ) → column ends r ≤ past)
+    → ((r : ℕ) → r < length ends → next r ≡ leastOr past (column place) (keep (λ q. eqb (column router q) r) (rowsOf free)))
+    → table (length ends) (λ r. min (column ends r) (next r)) ≡ table (length ends) (nextBy router place free ends)
+advanced router place free ends next past high h =
+    table-same (λ r. min (column ends r) (next r)) (nextBy router place free ends) (length ends) λ r l.
+    ap (min (column ends r)) (h r l) ∙ least-past (column ends r) past (column place) (keep (λ q. eqb (column router q) r) (rowsOf free)) (high r)
 
 module _ (C : Contest) where
   at-rest : (k : ℕ) (x : List ℕ) → refine C x ≡ x → repeat C k x ≡ x

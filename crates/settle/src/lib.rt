@@ -2,7 +2,7 @@
 // nothing passed beats. From 'all at their first place' they lead to the early assignment, from 'all past their end' to the late one.
 // A round is one pass over the rows for each of its parts.
 ghost use mathlib.Core.Path.{_≡_};
-ghost use mathlib.Core.Bool.{Bool, false, _&&_};
+ghost use mathlib.Core.Bool.{Bool, false, cond, _&&_};
 ghost use Prim.Native.Nat.{ℕ, _≤_, _<_, min};
 ghost use lib.ListN.{length};
 ghost use lib.Dec.{eqb, leb};
@@ -10,7 +10,7 @@ ghost use Rattle.model.specs.Rows.{keep, table, column};
 ghost use Rattle.model.specs.Contest.{refine, repeat};
 ghost use Rattle.model.specs.Lent.{was, is, col, on, rowsOf};
 ghost use Rattle.model.specs.Columns.{mostRouters};
-ghost use Rattle.model.specs.Arrangement.{listed, nextBy, Ready};
+ghost use Rattle.model.specs.Arrangement.{listed, nextBy, startBy, settledBy, Ready};
 
 // Whether the contender p stands at or before the place that its router has.
 fn passed(router: &[u32], place: &[u32], contends: &[bool], state: &[u32], p: usize) -> bool
@@ -108,4 +108,57 @@ fn settle(
             return;
         }
     }
+}
+
+// Where a router starts: past its end for the late assignment, at its first place for the early one.
+fn start_of(late: bool, end: u32) -> u32
+    ensures { λ x. ⌜ x ≡ cond late end 0 ⌝ }
+{
+    if late { end } else { 0 }
+}
+
+// Every router past its end, or every router at its first place.
+fn start(late: bool, ends: &[u32], state: &mut [u32])
+    requires { ⌜ length (now state) ≡ length (now ends) ⌝ }
+    ensures { λ _. ⌜ is state ≡ table (length (was ends)) (startBy late (was ends)) ⌝ }
+{
+    for r in 0..ends.len() {
+        state[r] = start_of(late, ends[r]);
+    }
+}
+
+fn unmarked() -> [bool; rows::MOST_ROWS] {
+    [false; rows::MOST_ROWS]
+}
+
+// Where rounds lead from the late or the early start: with the contest's lists of a prefix, its latest or earliest state of rest.
+pub fn settled(
+    late: bool,
+    router: &[u32],
+    place: &[u32],
+    group: &[u32],
+    med: &[u32],
+    contends: &[bool],
+    ends: &[u32],
+    state: &mut [u32],
+)
+    requires { ⌜ Ready (now router) (now place) (now group) (now med) (now contends) (now ends) ⌝ }
+    requires { ⌜ length (now state) ≡ length (now ends) ⌝ }
+    ensures { λ _. ⌜ is state ≡ settledBy late (was router) (was place) (was group) (was med) (was contends) (was ends) ⌝ }
+{
+    let mut seen = unmarked();
+    let mut free = unmarked();
+    let rows = contends.len();
+    start(late, ends, state);
+    settle(
+        router,
+        place,
+        group,
+        med,
+        contends,
+        ends,
+        &mut seen[..rows],
+        &mut free[..rows],
+        state,
+    );
 }

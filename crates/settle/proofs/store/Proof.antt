@@ -29,4 +29,4 @@ loop-again-2 c =
 
 pub store-spec : {M : Type 1} → statement M
 store-spec =
-    tie.close (tie.spec Inv-loop μ-loop (λ c. search moved) (λ c. search needs) (λ c. search needs) (λ c. search needs) (λ c κs. search needs) (λ c. search needs) (λ c. search needs) (λ c. search needs) (λ c. search needs) loop-again (λ c. search needs) (λ c. search needs) (λ c. search needs) (λ c. search needs) loop-again-2 (λ c. search needs) (λ c. moved-end (c .before .loop .inv) (c .loop-test .left)))
+    tie.close (tie.spec Inv-loop μ-loop (λ c. search moved) (λ c. search needs) (λ c. search needs) (λ c. search needs) (λ c. search needs) (λ c κs. search needs) (λ c. search needs) (λ c. search needs) (λ c. search needs) (λ c. search needs) loop-again (λ c. search needs) (λ c. search needs) (λ c. search needs) (λ c. search needs) loop-again-2 (λ c. search needs) (λ c. moved-end (c .before .loop .inv) (c .loop-test .left)))
