@@ -310,10 +310,16 @@ module _ {routers : ℕ} {t : Columns} {contends : List Bool} {place group ends 
       ∙ ap (λ (rows : List ℕ). keep at (keep own rows)) (a .contends-are))
       ∙ sym (at-place M r x)
 
-  pub stands-are : (x : List ℕ) → table (length ends) (standsAt (t .router) place contends x) ≡ table routers (atPlace M x)
+  stands-are : (x : List ℕ) → table (length ends) (standsAt (t .router) place contends x) ≡ table routers (atPlace M x)
   stands-are x =
       ap (λ (k : ℕ). table k (standsAt (t .router) place contends x)) ends-long
       ∙ table-same (standsAt (t .router) place contends x) (atPlace M x) routers (λ r l. stands-at x r)
+
+  pub rest-early : table (length ends) (standsAt (t .router) place contends (settledBy false (t .router) place group (t .med) contends ends)) ≡ table routers (atPlace M (earliest (contest M)))
+  rest-early = stands-are (settledBy false (t .router) place group (t .med) contends ends) ∙ ap (λ (x : List ℕ). table routers (atPlace M x)) settled-early
+
+  pub rest-late : table (length ends) (standsAt (t .router) place contends (settledBy true (t .router) place group (t .med) contends ends)) ≡ table routers (atPlace M (latest (contest M)))
+  rest-late = stands-are (settledBy true (t .router) place group (t .med) contends ends) ∙ ap (λ (x : List ℕ). table routers (atPlace M x)) settled-late
 
   -- and rounds have what they ask for
   pub ready : Fits routers t → Ready (t .router) place group (t .med) contends ends
