@@ -1,12 +1,11 @@
 // What each router holds, early and late, over lent columns: what the eight steps give it where the others stand at the rows of
 // their own at which the contest comes to rest.
 ghost use mathlib.Core.Path.{_≡_};
-ghost use Prim.Native.Nat.{ℕ, _≤_, _<_};
+ghost use Prim.Native.Nat.{ℕ};
 ghost use lib.ListN.{length};
-ghost use Rattle.model.specs.Rows.{table, column};
-ghost use Rattle.model.specs.Contest.{early, late};
+ghost use Rattle.model.specs.Rows.{table};
 ghost use Rattle.model.specs.Lent.{was, is};
-ghost use Rattle.model.specs.Columns.{columns, lentMesh, choiceOf, Placed};
+ghost use Rattle.model.specs.Columns.{columns, lentMesh, choiceOf, Placed, ForecastRows};
 
 // What each router chooses where the routers hold the rows `own`.
 fn hold(
@@ -50,7 +49,7 @@ fn vacant() -> [u16; choice::MOST_ROUTERS] {
     [rows::NONE; choice::MOST_ROUTERS]
 }
 
-// The early and the late row of each router, in the room that is lent.
+// The early and the late row of each router, in the room that is lent for the rows of its own at which it stands first and last.
 fn forecast_rows_in(
     router: &[u32],
     asn: &[u32],
@@ -62,14 +61,14 @@ fn forecast_rows_in(
     peer: &[u32],
     ids: &[u32],
     distances: &[u32],
-    own_early: &mut [u16],
-    own_late: &mut [u16],
+    first: &mut [u16],
+    last: &mut [u16],
     early: &mut [u16],
     late: &mut [u16],
 )
     requires { ⌜ Placed (length (now early)) (now ids) (now distances) (columns (now router) (now asn) (now preference) (now path) (now origin) (now med) (now nid) (now peer)) ⌝ }
-    requires { ⌜ (length (now own_early) ≡ length (now early)) × (length (now own_late) ≡ length (now early)) × (length (now late) ≡ length (now early)) ⌝ }
-    ensures { λ _. ⌜ (is early ≡ early (lentMesh (length (was early)) (was ids) (was distances) (columns (was router) (was asn) (was preference) (was path) (was origin) (was med) (was nid) (was peer)))) × (is late ≡ late (lentMesh (length (was early)) (was ids) (was distances) (columns (was router) (was asn) (was preference) (was path) (was origin) (was med) (was nid) (was peer)))) ⌝ }
+    requires { ⌜ (length (now first) ≡ length (now early)) × (length (now last) ≡ length (now early)) × (length (now late) ≡ length (now early)) ⌝ }
+    ensures { λ _. ⌜ ForecastRows (lentMesh (length (was early)) (was ids) (was distances) (columns (was router) (was asn) (was preference) (was path) (was origin) (was med) (was nid) (was peer))) (is early) (is late) ⌝ }
 {
     stand::own_rows(
         router,
@@ -80,8 +79,8 @@ fn forecast_rows_in(
         med,
         nid,
         peer,
-        own_early,
-        own_late,
+        first,
+        last,
     );
     hold(
         router,
@@ -94,7 +93,7 @@ fn forecast_rows_in(
         peer,
         ids,
         distances,
-        own_early,
+        first,
         early,
     );
     hold(
@@ -108,7 +107,47 @@ fn forecast_rows_in(
         peer,
         ids,
         distances,
-        own_late,
+        last,
+        late,
+    );
+}
+
+// The early and the late row of each router.
+pub fn forecast_rows(
+    router: &[u32],
+    asn: &[u32],
+    preference: &[u32],
+    path: &[u32],
+    origin: &[u32],
+    med: &[u32],
+    nid: &[u32],
+    peer: &[u32],
+    ids: &[u32],
+    distances: &[u32],
+    early: &mut [u16],
+    late: &mut [u16],
+)
+    requires { ⌜ Placed (length (now early)) (now ids) (now distances) (columns (now router) (now asn) (now preference) (now path) (now origin) (now med) (now nid) (now peer)) ⌝ }
+    requires { ⌜ length (now late) ≡ length (now early) ⌝ }
+    ensures { λ _. ⌜ ForecastRows (lentMesh (length (was early)) (was ids) (was distances) (columns (was router) (was asn) (was preference) (was path) (was origin) (was med) (was nid) (was peer))) (is early) (is late) ⌝ }
+{
+    let mut first = vacant();
+    let mut last = vacant();
+    let routers = early.len();
+    forecast_rows_in(
+        router,
+        asn,
+        preference,
+        path,
+        origin,
+        med,
+        nid,
+        peer,
+        ids,
+        distances,
+        &mut first[..routers],
+        &mut last[..routers],
+        early,
         late,
     );
 }
