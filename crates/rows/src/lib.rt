@@ -114,3 +114,17 @@ pub fn first(kept: &[bool]) -> u16
     }
     NONE
 }
+
+// How many rows are kept.
+pub fn count(kept: &[bool]) -> usize
+    ensures { λ r. ⌜ r ≡ length (rowsOf (was kept)) ⌝ }
+{
+    let mut sum: usize = 0;
+    for q in 0..kept.len() {
+        if kept[q] {
+            sum += 1;
+            continue;
+        }
+    }
+    sum
+}
