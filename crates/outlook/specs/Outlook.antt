@@ -1,5 +1,5 @@
 -- What the forecast of one prefix answers, and what it leaves in the two answer areas, for every input.
-use Prim.Native.Nat.{ℕ, _≤_, _<_}
+use Prim.Native.Nat.{ℕ, _+_, _≤_, _<_}
 use mathlib.Core.Path.{_≡_}
 use mathlib.Core.Bool.{Bool, true, false}
 use mathlib.Core.List.{List, [], _∷_, _++_}
@@ -8,13 +8,14 @@ use lib.ListN.{length, take, drop}
 use lib.Seq.{sets}
 use Rattle.refusal.specs.declared.Refusal.the-variants.{Room, Table, NoPrefix}
 use Rattle.snapshot.specs.declared.Counts.{Counts}
-use Rattle.snapshot.specs.Limits.{mostRouters}
+use Rattle.snapshot.specs.Limits.{mostRouters, mostRoutes}
 use Rattle.snapshot.specs.Ranges.{anyOf}
 use Rattle.snapshot.specs.Format.{Snapshot, Valid}
 use Rattle.snapshot.specs.Tables.{Tables, short, Held, mesh}
 use Rattle.tables.specs.Judging.{start}
 use Rattle.model.specs.Rows.{column}
-use Rattle.model.specs.Columns.{Columns, columns}
+use Rattle.model.specs.Contest.{early, late}
+use Rattle.model.specs.Columns.{Columns, columns, Placed}
 use Rattle.model.specs.Decision.{Mesh}
 use Rattle.model.specs.Stability.{Between, differing}
 use Rattle.word.specs.Word.{word}
@@ -39,6 +40,34 @@ parts routes p c =
 -- the word of the routers whose two rows differ, with the number of its ones
 abbrev pub differingOf : Mesh → List ℕ → List ℕ → Differing
 differingOf M early late = record { word = word (differing M early late); number = length (differing M early late) }
+
+-- the early and the late rows of a mesh, and the routers that differ
+pub record Decided (M : Mesh) (d : Differing) (earlies lates : List ℕ) : Type 0 where
+  pub early-rows : earlies ≡ early M
+  pub late-rows : lates ≡ late M
+  pub differs : d ≡ differingOf M (early M) (late M)
+
+-- the same at the start of two areas, whose other entries are as before
+pub record Shown (M : Mesh) (d : Differing) (early₀ early₁ late₀ late₁ : List ℕ) : Type 0 where
+  pub early-area : early₁ ≡ sets early₀ 0 (early M)
+  pub late-area : late₁ ≡ sets late₀ 0 (late M)
+  pub differs : d ≡ differingOf M (early M) (late M)
+
+-- the tables have that prefix: its part of each column is inside, within the limits and of known routers, and the areas have room
+pub record Part (counts : Counts) (p : ℕ) (ids distances routes : List ℕ) (c : Columns) (early late : List ℕ) : Type 0 where
+  pub below : p < length routes
+  pub fits : start routes p + column routes p ≤ mostRoutes
+  pub long : mostRoutes ≤ length (c .router)
+  pub asn : mostRoutes ≤ length (c .asn)
+  pub preference : mostRoutes ≤ length (c .preference)
+  pub path : mostRoutes ≤ length (c .path)
+  pub origin : mostRoutes ≤ length (c .origin)
+  pub med : mostRoutes ≤ length (c .med)
+  pub nid : mostRoutes ≤ length (c .nid)
+  pub peer : mostRoutes ≤ length (c .peer)
+  pub placed : Placed (counts .routers) ids distances (parts routes p c)
+  pub earlies : counts .routers ≤ length early
+  pub lates : counts .routers ≤ length late
 
 -- the answer to these counts, tables, prefix number and answer areas, and what the areas hold afterwards; checked in this order
 pub data Forecasts (counts : Counts) (t : Tables) (p : ℕ) (early late : List ℕ) : Outlook → List ℕ → List ℕ → Type 0 where

@@ -3,7 +3,7 @@ use Prim.Native.Nat.{ℕ, _<_}
 use mathlib.Core.Path.{_≡_}
 use mathlib.Core.Logic.{_⊎_}
 use mathlib.Core.Bool.{not}
-use mathlib.Core.List.{List, [], _∷_, _++_, map}
+use mathlib.Core.List.{List, _++_, map}
 use lib.Dec.{eqb}
 use lib.ListN.{length, getD}
 use Rattle.refusal.specs.Numbers.{numberOf}
@@ -14,12 +14,8 @@ use Rattle.model.specs.Contest.{early, late}
 use Rattle.snapshot.specs.Format.{Snapshot}
 use Rattle.snapshot.specs.Reading.{Answer, accepted, refused, reading}
 use Rattle.snapshot.specs.Tables.{mesh}
+use Rattle.text.specs.Text.{each}
 use Rattle.lines.specs.Lines.{headingLine, refusedLine, prefixLine, routerLine}
-
--- one text after the other, for each number of a list
-abbrev pub each : (ℕ → List ℕ) → List ℕ → List ℕ
-each text [] = []
-each text (r ∷ rs) = text r ++ each text rs
 
 -- every row that is held is none or a row of the prefix
 pub record Rows (router held : List ℕ) : Type 0 where

@@ -6,9 +6,9 @@ ghost use lib.ListN.{length, getD};
 ghost use Rattle.model.specs.Rows.{span};
 ghost use Rattle.model.specs.Decision.{none};
 ghost use Rattle.model.specs.Lent.{was, is, col};
-ghost use Rattle.text.specs.Text.{Puts};
+ghost use Rattle.text.specs.Text.{each, Puts};
 ghost use Rattle.lines.specs.Lines.{routerLine};
-ghost use Rattle.page.specs.Page.{each, Rows};
+ghost use Rattle.page.specs.Page.{Rows};
 
 // Puts the line of every router.
 fn put_routers(out: &mut [u8], at: usize, unsettled: bool, router: &[u32], early: &[u16], late: &[u16]) -> usize

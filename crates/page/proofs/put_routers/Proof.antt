@@ -9,8 +9,7 @@ use Rattle.model.specs.Rows.{column}
 use Rattle.model.specs.Decision.{none}
 use Rattle.model.specs.ColumnLaws.{getD-inside}
 use Rattle.lines.specs.Lines.{routerLine}
-use Rattle.text.specs.TextLaws.{puts-as}
-use Rattle.page.specs.PageLaws.{Lined, lined, lined-next, lined-end, lined-room}
+use Rattle.text.specs.TextLaws.{puts-as, Lined, lined, lined-next, lined-end, lined-room}
 use Rattle.page.proofs.put_routers.Statement.{statement}
 use Rattle.page.proofs.put_routers.Tie as tie
 
