@@ -75,7 +75,7 @@ pub data Forecasts (counts : Counts) (t : Tables) (p : ℕ) (early late : List �
   room : anyOf (shortOf t early late) ≡ true → Forecasts counts t p early late (Refused Room 0) early late
 
   -- the tables are not those of any snapshot
-  table : anyOf (shortOf t early late) ≡ false
+  noSnapshot : anyOf (shortOf t early late) ≡ false
       → ((s : Snapshot) → Valid s → Held counts t s → ⊥)
       → Forecasts counts t p early late (Refused Table 0) early late
 

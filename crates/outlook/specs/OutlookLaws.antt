@@ -9,6 +9,9 @@ use lib.ListN.{length, getD, length-map, List·getD-eq-default}
 use lib.Dec.{eqb, ltb}
 use borrow.Author.Tests.{ltb-false, eqb-true}
 use lib.Seq.{sets, getD-take}
+use lib.Count.{ones}
+use Rattle.word.specs.Word.{word, differs, differingIn}
+use Rattle.word.specs.WordLaws.{ones-word}
 use Rattle.snapshot.specs.declared.Counts.{Counts}
 use Rattle.snapshot.specs.Format.{Snapshot, Valid}
 use Rattle.snapshot.specs.Limits.{mostRouters}
@@ -17,17 +20,18 @@ use Rattle.snapshot.specs.RangesLaws.{none-at, none-any}
 use Rattle.snapshot.specs.Tables.{Tables, Held, routesOf, mesh}
 use Rattle.tables.specs.Theorems.{held-one, held-ids, held-distance, held-count, held-column, absent-zero, sound}
 use Rattle.tables.specs.Judging.{Room}
-use Rattle.model.specs.Decision.{Route, Mesh, metric}
-use Rattle.model.specs.Stability.{Between, Only}
-use Rattle.model.specs.Contest.{early, late}
-use Rattle.model.specs.Columns.{Columns, columns, lentMesh}
+use Rattle.model.specs.Rows.{keep, span, table}
+use Rattle.model.specs.Decision.{Route, Mesh, metric, choice}
+use Rattle.model.specs.Stability.{Between, Only, available, differing}
+use Rattle.model.specs.Contest.{early, late, atPlace, earliest, contest}
+use Rattle.model.specs.Columns.{Columns, columns, lentMesh, ForecastRows}
 use Rattle.model.specs.MeshLaws.{Alike, sound-alike, between-alike}
-use Rattle.model.specs.RowLaws.{by, le-or-lt}
+use Rattle.model.specs.RowLaws.{by, le-or-lt, table-length}
 use Rattle.model.specs.Theorems.{forecast, pair-determined, settled-only}
 use Rattle.outlook.specs.declared.Differing.{Differing}
 use Rattle.outlook.specs.declared.Outlook.{Outlook}
 use Rattle.outlook.specs.declared.Outlook.the-variants.{Forecast, Refused}
-use Rattle.outlook.specs.Outlook.{Forecasts, room, table, noPrefix, given, differingOf, shortOf, parts}
+use Rattle.outlook.specs.Outlook.{Forecasts, room, noSnapshot, noPrefix, given, differingOf, shortOf, parts, Decided}
 
 -- ---- room
 
@@ -75,20 +79,20 @@ pub record Same (a b : Outlook) (early early′ late late′ : List ℕ) : Type 
 pub forecasts-one : {counts : Counts} {t : Tables} {p : ℕ} {early late : List ℕ} {a b : Outlook} {e l e′ l′ : List ℕ}
     → Forecasts counts t p early late a e l → Forecasts counts t p early late b e′ l′ → Same a b e e′ l l′
 forecasts-one (room h) (room k) = record { answer = refl; earlies = refl; lates = refl }
-forecasts-one (room h) (table k n) = absurd (true≢false (sym h ∙ k))
+forecasts-one (room h) (noSnapshot k n) = absurd (true≢false (sym h ∙ k))
 forecasts-one (room h) (noPrefix k s v i m) = absurd (true≢false (sym h ∙ k))
 forecasts-one (room h) (given k s v i m e l b) = absurd (true≢false (sym h ∙ k))
-forecasts-one (table h n) (room k) = absurd (true≢false (sym k ∙ h))
-forecasts-one (table h n) (table k o) = record { answer = refl; earlies = refl; lates = refl }
-forecasts-one (table h n) (noPrefix k s v i m) = absurd (n s v i)
-forecasts-one (table h n) (given k s v i m e l b) = absurd (n s v i)
+forecasts-one (noSnapshot h n) (room k) = absurd (true≢false (sym k ∙ h))
+forecasts-one (noSnapshot h n) (noSnapshot k o) = record { answer = refl; earlies = refl; lates = refl }
+forecasts-one (noSnapshot h n) (noPrefix k s v i m) = absurd (n s v i)
+forecasts-one (noSnapshot h n) (given k s v i m e l b) = absurd (n s v i)
 forecasts-one (noPrefix h s v i m) (room k) = absurd (true≢false (sym k ∙ h))
-forecasts-one (noPrefix h s v i m) (table k n) = absurd (n s v i)
+forecasts-one (noPrefix h s v i m) (noSnapshot k n) = absurd (n s v i)
 forecasts-one (noPrefix h s v i m) (noPrefix k u w j o) = record { answer = refl; earlies = refl; lates = refl }
 forecasts-one {t} {p} {early} {late} (noPrefix h s v i m) (given k u w j o e l b) =
     absurd (let same = ap (λ (x : Snapshot). length (x .prefixes)) (held-one (has-room t early late h) v i w j) in omega arith)
 forecasts-one (given h s v i m e l b) (room k) = absurd (true≢false (sym k ∙ h))
-forecasts-one (given h s v i m e l b) (table k n) = absurd (n s v i)
+forecasts-one (given h s v i m e l b) (noSnapshot k n) = absurd (n s v i)
 forecasts-one {t} {p} {early} {late} (given h s v i m e l b) (noPrefix k u w j o) =
     absurd (let same = ap (λ (x : Snapshot). length (x .prefixes)) (held-one (has-room t early late h) v i w j) in omega arith)
 forecasts-one {t} {p} {early} {late} (given h s v i m e l b) (given k u w j o e′ l′ b′) =
@@ -176,3 +180,20 @@ module _ {counts : Counts} {t : Tables} {s : Snapshot} (enough : Room t) (valid 
   lent-between =
       let known = sound-alike lent (mesh s p) lent-alike (sound valid p below) in
       between-alike lent (mesh s p) lent-alike known (early lent) (late lent) (forecast lent known)
+
+-- ---- the routers that differ
+
+-- what the code counts of the rows of a mesh
+pub decided : (M : Mesh) {e l : List ℕ} {bits number : ℕ} → ForecastRows M e l → bits ≡ word (differingIn e l) → number ≡ ones bits
+    → Decided M (record { word = bits; number = number }) e l
+decided M {e} {l} {bits} {number} rows w o = record {
+  early-rows = rows .early-rows;
+  late-rows = rows .late-rows;
+  differs = ap₂ (λ (x y : ℕ). record { word = x; number = y }) (w ∙ ap word same) (o ∙ ap ones w ∙ ones-word (differs e l) (length e) ∙ ap length same);
+}
+  where
+    size : length e ≡ M .routers
+    size = ap length (rows .early-rows) ∙ table-length (M .routers) (λ r. choice M r (available M (table (M .routers) (atPlace M (earliest (contest M)))) r))
+
+    same : differingIn e l ≡ differing M (early M) (late M)
+    same = ap (λ (n : ℕ). keep (differs e l) (span 0 n)) size ∙ ap₂ (λ (x y : List ℕ). differing M x y) (rows .early-rows) (rows .late-rows)
