@@ -31,11 +31,15 @@ shortOf t early late = short t ++ (ltb (length early) mostRouters ∷ ltb (lengt
 abbrev pub part : ℕ → ℕ → List ℕ → List ℕ
 part at n xs = take n (drop at xs)
 
+-- so many entries of each column, from one on
+abbrev pub cut : ℕ → ℕ → Columns → Columns
+cut at n c = columns
+    (part at n (c .router)) (part at n (c .asn)) (part at n (c .preference)) (part at n (c .path))
+    (part at n (c .origin)) (part at n (c .med)) (part at n (c .nid)) (part at n (c .peer))
+
 -- a prefix's part of each column
 abbrev pub parts : List ℕ → ℕ → Columns → Columns
-parts routes p c =
-    let cut : List ℕ → List ℕ = part (start routes p) (column routes p) in
-    columns (cut (c .router)) (cut (c .asn)) (cut (c .preference)) (cut (c .path)) (cut (c .origin)) (cut (c .med)) (cut (c .nid)) (cut (c .peer))
+parts routes p c = cut (start routes p) (column routes p) c
 
 -- the word of the routers whose two rows differ, with the number of its ones
 abbrev pub differingOf : Mesh → List ℕ → List ℕ → Differing

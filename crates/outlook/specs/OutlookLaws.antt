@@ -1,14 +1,14 @@
 -- The promise of a forecast determines its answer and both areas, and its number says whether a second stable assignment exists.
-use Prim.Native.Nat.{ℕ, _≤_, _<_}
+use Prim.Native.Nat.{ℕ, _+_, _≤_, _<_}
 use native.Mathlib.Omega.{arith}
 use mathlib.Core.Path.{_≡_, refl, sym, ap, ap₂, subst, _∙_, fun-ext}
 use mathlib.Core.Logic.{_↔_, inl, inr}
 use mathlib.Core.Bool.{Bool, true, false, true≢false, false≢true}
-use mathlib.Core.List.{List, map}
-use lib.ListN.{length, getD, length-map, List·getD-eq-default}
+use mathlib.Core.List.{List, _++_, map}
+use lib.ListN.{length, getD, drop, length-map, List·getD-eq-default}
 use lib.Dec.{eqb, ltb}
 use borrow.Author.Tests.{ltb-false, eqb-true}
-use lib.Seq.{sets, getD-take}
+use lib.Seq.{sets, sets-eq, getD-take}
 use lib.Count.{ones}
 use Rattle.word.specs.Word.{word, differs, differingIn}
 use Rattle.word.specs.WordLaws.{ones-word}
@@ -23,15 +23,15 @@ use Rattle.tables.specs.Judging.{Room}
 use Rattle.model.specs.Rows.{keep, span, table}
 use Rattle.model.specs.Decision.{Route, Mesh, metric, choice}
 use Rattle.model.specs.Stability.{Between, Only, available, differing}
-use Rattle.model.specs.Contest.{early, late, atPlace, earliest, contest}
-use Rattle.model.specs.Columns.{Columns, columns, lentMesh, ForecastRows}
+use Rattle.model.specs.Contest.{early, late, atPlace, holding, earliest, latest, contest}
+use Rattle.model.specs.Columns.{Columns, columns, lentMesh, ForecastRows, Placed}
 use Rattle.model.specs.MeshLaws.{Alike, sound-alike, between-alike}
 use Rattle.model.specs.RowLaws.{by, le-or-lt, table-length}
 use Rattle.model.specs.Theorems.{forecast, pair-determined, settled-only}
 use Rattle.outlook.specs.declared.Differing.{Differing}
 use Rattle.outlook.specs.declared.Outlook.{Outlook}
 use Rattle.outlook.specs.declared.Outlook.the-variants.{Forecast, Refused}
-use Rattle.outlook.specs.Outlook.{Forecasts, room, noSnapshot, noPrefix, given, differingOf, shortOf, parts, Decided}
+use Rattle.outlook.specs.Outlook.{Forecasts, room, noSnapshot, noPrefix, given, differingOf, shortOf, parts, cut, Decided, Shown}
 
 -- ---- room
 
@@ -197,3 +197,40 @@ decided M {e} {l} {bits} {number} rows w o = record {
 
     same : differingIn e l ≡ differing M (early M) (late M)
     same = ap (λ (n : ℕ). keep (differs e l) (span 0 n)) size ∙ ap₂ (λ (x y : List ℕ). differing M x y) (rows .early-rows) (rows .late-rows)
+
+-- ---- the part of a prefix, cut out by the code
+
+-- what is said of columns cut out here is said of the same columns cut out there
+module _ (ids distances : List ℕ) (c : Columns) where
+  pub placed-cut : {n n′ a a′ k k′ : ℕ} → n ≡ n′ → a ≡ a′ → k ≡ k′ → Placed n ids distances (cut a k c) → Placed n′ ids distances (cut a′ k′ c)
+  placed-cut {n} {n′} {a} {a′} {k} {k′} e f g p =
+      subst (λ (z : ℕ). Placed z ids distances (cut a′ k′ c)) e
+      (subst (λ (z : ℕ). Placed n ids distances (cut z k′ c)) f
+      (subst (λ (z : ℕ). Placed n ids distances (cut a z c)) g p))
+
+  pub shown-cut : {n n′ a a′ k k′ : ℕ} {d : Differing} {e l early₀ early₁ late₀ late₁ : List ℕ} → n ≡ n′ → a ≡ a′ → k ≡ k′
+      → n ≤ length early₀ → n ≤ length late₀ → early₁ ≡ e ++ drop n early₀ → late₁ ≡ l ++ drop n late₀
+      → Decided (lentMesh n′ ids distances (cut a′ k′ c)) d e l → Shown (lentMesh n ids distances (cut a k c)) d early₀ early₁ late₀ late₁
+  shown-cut {n} {n′} {a} {a′} {k} {k′} {d} {e} {l} {early₀} {early₁} {late₀} {late₁} f g h re rl ee el b =
+      record {
+        early-area = ee ∙ ap (λ (rows : List ℕ). rows ++ drop n early₀) (there .early-rows) ∙ front early₀ (early M) (size (earliest (contest M))) re;
+        late-area = el ∙ ap (λ (rows : List ℕ). rows ++ drop n late₀) (there .late-rows) ∙ front late₀ (late M) (size (latest (contest M))) rl;
+        differs = there .differs;
+      }
+    where
+      M : Mesh
+      M = lentMesh n ids distances (cut a k c)
+
+      there : Decided M d e l
+      there =
+          subst (λ (z : ℕ). Decided (lentMesh z ids distances (cut a k c)) d e l) (sym f)
+          (subst (λ (z : ℕ). Decided (lentMesh n′ ids distances (cut z k c)) d e l) (sym g)
+          (subst (λ (z : ℕ). Decided (lentMesh n′ ids distances (cut a′ z c)) d e l) (sym h) b))
+
+      size : (x : List ℕ) → length (holding M x) ≡ n
+      size x = table-length n (λ r. choice M r (available M (table n (atPlace M x)) r))
+
+      front : (area rows : List ℕ) → length rows ≡ n → n ≤ length area → rows ++ drop n area ≡ sets area 0 rows
+      front area rows z fits =
+          let e : n ≡ 0 + length rows = omega arith in
+          ap (λ (m : ℕ). rows ++ drop m area) e ∙ sym (sets-eq rows area 0 (omega arith))
