@@ -32,13 +32,10 @@ rowsBytes M early late = each (λ r. bytesOf 2 (getD early r none) ++ bytesOf 2 
 pub data Answers (bs : List ℕ) (p : ℕ) (area : List ℕ) : ℕ → List ℕ → Type 0 where
   -- the area is too short
   room : length area < areaBytes → Answers bs p area (refusalCode Room) area
-
   -- the bytes are refused
   unread : areaBytes ≤ length area → (r : Refusal) (at : ℕ) → reading bs ≡ refused r at → Answers bs p area (refusalCode r) area
-
   -- they are those of s, and the prefix number is not below its prefix count
   noPrefix : areaBytes ≤ length area → (s : Snapshot) → reading bs ≡ accepted s → length (s .prefixes) ≤ p → Answers bs p area (refusalCode NoPrefix) area
-
   -- they are those of s: how many routers differ (0 for settled), and the early and late rows of that prefix of s; all other bytes stay
   given : areaBytes ≤ length area → (s : Snapshot) → reading bs ≡ accepted s → p < length (s .prefixes)
       → (e l : List ℕ) → Between (mesh s p) e l

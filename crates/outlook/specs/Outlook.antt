@@ -77,18 +77,15 @@ pub record Part (counts : Counts) (p : ℕ) (ids distances routes : List ℕ) (c
 pub data Forecasts (counts : Counts) (t : Tables) (p : ℕ) (early late : List ℕ) : Outlook → List ℕ → List ℕ → Type 0 where
   -- a lent table, or an answer area, is too short
   room : anyOf (shortOf t early late) ≡ true → Forecasts counts t p early late (Refused Room 0) early late
-
   -- the tables are not those of any snapshot
   noSnapshot : anyOf (shortOf t early late) ≡ false
       → ((s : Snapshot) → Valid s → Held counts t s → ⊥)
       → Forecasts counts t p early late (Refused Table 0) early late
-
   -- they are those of s, and the prefix number is not below its prefix count
   noPrefix : anyOf (shortOf t early late) ≡ false
       → (s : Snapshot) → Valid s → Held counts t s
       → length (s .prefixes) ≤ p
       → Forecasts counts t p early late (Refused NoPrefix 0) early late
-
   -- they are those of s: the early and the late assignment of that prefix of s, from the first router on, and the routers that differ
   given : anyOf (shortOf t early late) ≡ false
       → (s : Snapshot) → Valid s → Held counts t s

@@ -14,12 +14,12 @@ use Rattle.word.specs.Word.{word, differs, differingIn}
 use Rattle.word.specs.WordLaws.{ones-word}
 use Rattle.snapshot.specs.declared.Counts.{Counts}
 use Rattle.snapshot.specs.Format.{Snapshot, Valid}
-use Rattle.snapshot.specs.Limits.{mostRouters}
+use Rattle.snapshot.specs.Limits.{mostRouters, mostPrefixes}
 use Rattle.snapshot.specs.Ranges.{anyOf}
 use Rattle.snapshot.specs.RangesLaws.{none-at, none-any}
 use Rattle.snapshot.specs.Tables.{Tables, Held, routesOf, mesh}
-use Rattle.tables.specs.Theorems.{held-one, held-ids, held-distance, held-count, held-column, absent-zero, sound}
-use Rattle.tables.specs.Judging.{Room}
+use Rattle.tables.specs.Theorems.{held-one, held-ids, held-distance, held-count, held-fits, held-column, routers-few, routes-few, absent-zero, sound}
+use Rattle.tables.specs.Judging.{Room, Holding}
 use Rattle.model.specs.Rows.{keep, span, table}
 use Rattle.model.specs.Decision.{Route, Mesh, metric, choice}
 use Rattle.model.specs.Stability.{Between, Only, available, differing}
@@ -31,7 +31,7 @@ use Rattle.model.specs.Theorems.{forecast, pair-determined, settled-only}
 use Rattle.outlook.specs.declared.Differing.{Differing}
 use Rattle.outlook.specs.declared.Outlook.{Outlook}
 use Rattle.outlook.specs.declared.Outlook.the-variants.{Forecast, Refused}
-use Rattle.outlook.specs.Outlook.{Forecasts, room, noSnapshot, noPrefix, given, differingOf, shortOf, parts, cut, Decided, Shown}
+use Rattle.outlook.specs.Outlook.{Forecasts, room, noSnapshot, noPrefix, given, differingOf, shortOf, parts, cut, Decided, Shown, Part}
 
 -- ---- room
 
@@ -121,16 +121,17 @@ columnsOf rs = columns
     (map (λ r. r .router) rs) (map (λ r. r .asn) rs) (map (λ r. r .preference) rs) (map (λ r. r .path) rs)
     (map (λ r. r .origin) rs) (map (λ r. r .med) rs) (map (λ r. r .nid) rs) (map (λ r. r .peer) rs)
 
+-- the columns of tables, but for the marks
+abbrev pub whole : Tables → Columns
+whole t = columns (t .rows .router) (t .rows .asn) (t .rows .preference) (t .rows .path) (t .rows .origin) (t .rows .med) (t .rows .nid) (t .rows .peer)
+
 module _ {counts : Counts} {t : Tables} {s : Snapshot} (enough : Room t) (valid : Valid s) (held : Held counts t s) (p : ℕ) (below : p < length (s .prefixes)) where
   -- what the code decides the prefix on
   abbrev pub lent : Mesh
   lent = lentMesh (counts .routers) (t .ids) (t .distances) (columnsOf (routesOf s p))
 
-  abbrev whole : Columns
-  whole = columns (t .rows .router) (t .rows .asn) (t .rows .preference) (t .rows .path) (t .rows .origin) (t .rows .med) (t .rows .nid) (t .rows .peer)
-
   -- the prefix's part of each column holds its routes
-  pub parts-are : parts (t .routes) p whole ≡ columnsOf (routesOf s p)
+  pub parts-are : parts (t .routes) p (whole t) ≡ columnsOf (routesOf s p)
   parts-are =
       let b : p < counts .prefixes = omega (arith, ap (λ (c : Counts). c .prefixes) (held .0)) in
       let k = held-count enough valid held p b in
@@ -234,3 +235,91 @@ module _ (ids distances : List ℕ) (c : Columns) where
       front area rows z fits =
           let e : n ≡ 0 + length rows = omega arith in
           ap (λ (m : ℕ). rows ++ drop m area) e ∙ sym (sets-eq rows area 0 (omega arith))
+
+-- ---- the whole call
+
+module _ (counts : Counts) (t : Tables) (p : ℕ) (early₀ late₀ : List ℕ) (enough : anyOf (shortOf t early₀ late₀) ≡ false) (holding : Holding counts t) (below : p < counts .prefixes) where
+  abbrev s : Snapshot
+  s = holding .snapshot
+
+  abbrev roomy : Room t
+  roomy = has-room t early₀ late₀ enough
+
+  n-is : counts .routers ≡ length (s .ids)
+  n-is = ap (λ (c : Counts). c .routers) (holding .held .0)
+
+  there : p < length (s .prefixes)
+  there = omega (arith, ap (λ (c : Counts). c .prefixes) (holding .held .0))
+
+  few : counts .routers ≤ mostRouters
+  few = omega (arith, n-is, routers-few (holding .valid))
+
+  same-parts : parts (t .routes) p (whole t) ≡ columnsOf (routesOf s p)
+  same-parts = parts-are roomy (holding .valid) (holding .held) p there
+
+  placed : Placed (counts .routers) (t .ids) (t .distances) (columnsOf (routesOf s p))
+  placed = record {
+    fits = record {
+      few = few;
+      rows = omega (arith, one (λ r. r .router), routes-few (holding .valid) p there);
+      asn = alike (λ r. r .asn);
+      preference = alike (λ r. r .preference);
+      path = alike (λ r. r .path);
+      origin = alike (λ r. r .origin);
+      med = alike (λ r. r .med);
+      nid = alike (λ r. r .nid);
+      peer = alike (λ r. r .peer);
+      owned = λ q l. omega (arith, n-is, sound (holding .valid) p there .owned q (omega (arith, one (λ r. r .router))));
+    };
+    ids-long = omega (arith, few, roomy .ids);
+    distances-long = roomy .distances;
+  }
+    where
+      one : (f : Route → ℕ) → length (map f (routesOf s p)) ≡ length (routesOf s p)
+      one f = length-map (routesOf s p) f
+
+      alike : (f : Route → ℕ) → length (map f (routesOf s p)) ≡ length (map (λ r. r .router) (routesOf s p))
+      alike f = one f ∙ sym (one (λ r. r .router))
+
+  -- what the code needs to know of the prefix
+  pub part-of : Part counts p (t .ids) (t .distances) (t .routes) (whole t) early₀ late₀
+  part-of = record {
+    below = (let l = valid-few (holding .valid) in omega (arith, there, roomy .prefixes .routes));
+    fits = omega (arith, held-count roomy (holding .valid) (holding .held) p below, held-fits roomy (holding .valid) (holding .held) p below);
+    long = roomy .prefixes .rows .router;
+    asn = roomy .prefixes .rows .asn;
+    preference = roomy .prefixes .rows .preference;
+    path = roomy .prefixes .rows .path;
+    origin = roomy .prefixes .rows .origin;
+    med = roomy .prefixes .rows .med;
+    nid = roomy .prefixes .rows .nid;
+    peer = roomy .prefixes .rows .peer;
+    placed = subst (Placed (counts .routers) (t .ids) (t .distances)) (sym same-parts) placed;
+    earlies = omega (arith, few, early-room t early₀ late₀ enough);
+    lates = omega (arith, few, late-room t early₀ late₀ enough);
+  }
+    where
+      valid-few : Valid s → length (s .prefixes) ≤ mostPrefixes
+      valid-few v = v .fewPrefixes
+
+  -- what the code shows is the forecast
+  pub shown-given : {d : Differing} {early₁ late₁ : List ℕ}
+      → Shown (lentMesh (counts .routers) (t .ids) (t .distances) (parts (t .routes) p (whole t))) d early₀ early₁ late₀ late₁
+      → Forecasts counts t p early₀ late₀ (Forecast d) early₁ late₁
+  shown-given {d} {early₁} {late₁} h =
+      subst (λ (x : Differing). Forecasts counts t p early₀ late₀ (Forecast x) early₁ late₁) (sym answer)
+      (subst (λ (x : List ℕ). Forecasts counts t p early₀ late₀ (Forecast (differingOf (mesh s p) (early L) (late L))) x late₁) (sym (k .early-area))
+      (subst (λ (x : List ℕ). Forecasts counts t p early₀ late₀ (Forecast (differingOf (mesh s p) (early L) (late L))) (sets early₀ 0 (early L)) x) (sym (k .late-area))
+      (given enough s (holding .valid) (holding .held) there (early L) (late L) (lent-between roomy (holding .valid) (holding .held) p there))))
+    where
+      L : Mesh
+      L = lent roomy (holding .valid) (holding .held) p there
+
+      k : Shown L d early₀ early₁ late₀ late₁
+      k = subst (λ (c : Columns). Shown (lentMesh (counts .routers) (t .ids) (t .distances) c) d early₀ early₁ late₀ late₁) same-parts h
+
+      answer : d ≡ differingOf (mesh s p) (early L) (late L)
+      answer = k .differs ∙ ap (λ (n : ℕ). counted (keep (differs (early L) (late L)) (span 0 n))) n-is
+        where
+          counted : List ℕ → Differing
+          counted rs = record { word = word rs; number = length rs }

@@ -55,10 +55,24 @@ pub fn decided(
     ensures { λ d. ⌜ Decided (lentMesh (length (was early)) (was ids) (was distances) (columns (was router) (was asn) (was preference) (was path) (was origin) (was med) (was nid) (was peer))) d (is early) (is late) ⌝ }
 {
     hold::forecast_rows(
-        router, asn, preference, path, origin, med, nid, peer, ids, distances, early, late,
+        router,
+        asn,
+        preference,
+        path,
+        origin,
+        med,
+        nid,
+        peer,
+        ids,
+        distances,
+        early,
+        late,
     );
     let bits = word::differing(early, late);
-    Differing { word: bits, number: word::ones(bits) }
+    Differing {
+        word: bits,
+        number: word::ones(bits),
+    }
 }
 
 // The same for a prefix of lent tables: the routers' rows go to the start of the areas, the entries past the last router stay.
@@ -144,8 +158,21 @@ pub fn forecast(
         return Outlook::Refused(Refusal::Room, 0);
     }
     let good = tables::judge(
-        counts, ids, distances, address, bits, routes, router, asn, preference, path, origin, mark,
-        med, nid, peer,
+        counts,
+        ids,
+        distances,
+        address,
+        bits,
+        routes,
+        router,
+        asn,
+        preference,
+        path,
+        origin,
+        mark,
+        med,
+        nid,
+        peer,
     );
     if !good {
         return Outlook::Refused(Refusal::Table, 0);

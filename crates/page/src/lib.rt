@@ -11,7 +11,14 @@ ghost use Rattle.lines.specs.Lines.{routerLine};
 ghost use Rattle.page.specs.Page.{Rows};
 
 // Puts the line of every router.
-fn put_routers(out: &mut [u8], at: usize, unsettled: bool, router: &[u32], early: &[u16], late: &[u16]) -> usize
+fn put_routers(
+    out: &mut [u8],
+    at: usize,
+    unsettled: bool,
+    router: &[u32],
+    early: &[u16],
+    late: &[u16],
+) -> usize
     requires { ⌜ (length (now late) ≡ length (now early)) × (length (now early) ≤ 64) × (at + 80 * length (now early) ≤ length (now out)) ⌝ }
     requires { ⌜ Rows (now router) (now early) × Rows (now router) (now late) ⌝ }
     ensures { λ end. ⌜ Puts (was out) (is out) at end (each (λ r. routerLine unsettled (col router) r (getD (was early) r none) (getD (was late) r none)) (span 0 (length (was early)))) × (end ≤ at + 80 * length (was early)) ⌝ }

@@ -28,8 +28,7 @@ put-router-requires c κs =
     let a = start .args in
     let same : length (now (a .late)) ≡ length (now (a .early)) = start .pre .0 .0 in
     let l = turn .loop-test .taken in
-    let m : here .loop .r < length (now (a .late)) = omega arith in
-    (
+    let m : here .loop .r < length (now (a .late)) = omega arith in (
       lined-room (here .loop .inv) l (start .pre .0 .2),
       (
         subst (λ (k : ℕ). (k ≡ none) ⊎ (k < length (now (a .router)))) (getD-inside (now (a .early)) (here .loop .r) none 0 l) (start .pre .1 .0 .row (here .loop .r) l),
