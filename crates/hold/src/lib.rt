@@ -45,8 +45,8 @@ fn hold(
     }
 }
 
-fn vacant() -> [u16; choice::MOST_ROUTERS] {
-    [rows::NONE; choice::MOST_ROUTERS]
+fn vacant() -> [u16; rows::MOST_ROUTERS] {
+    [rows::NONE; rows::MOST_ROUTERS]
 }
 
 // The early and the late row of each router, in the room that is lent for the rows of its own at which it stands first and last.
