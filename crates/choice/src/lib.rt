@@ -1,9 +1,9 @@
 // Choosing among what is available: the eight steps of document 01, over lent columns, one function a step and in its order.
 ghost use mathlib.Core.Path.{_≡_};
-ghost use mathlib.Core.Bool.{Bool, cond, _&&_, _||_};
+ghost use mathlib.Core.Bool.{cond, _&&_, _||_};
 ghost use Prim.Native.Nat.{ℕ, _+_, _*_, _≤_, _<_};
 ghost use lib.ListN.{length, getD};
-ghost use lib.Dec.{eqb, ltb};
+ghost use lib.Dec.{eqb};
 ghost use Rattle.model.specs.Rows.{keep, some, span, column, keepLeast, keepGreatest};
 ghost use Rattle.model.specs.Decision.{none, beatsBy, unbeatenBy};
 ghost use Rattle.model.specs.Lent.{was, is, col, on, rowsOf};

@@ -1,7 +1,6 @@
 // What each router holds, early and late, over lent columns: what the eight steps give it where the others stand at the rows of
 // their own at which the contest comes to rest.
 ghost use mathlib.Core.Path.{_≡_};
-ghost use Prim.Native.Nat.{ℕ};
 ghost use lib.ListN.{length};
 ghost use Rattle.model.specs.Rows.{table};
 ghost use Rattle.model.specs.Lent.{was, is};

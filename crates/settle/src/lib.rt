@@ -2,10 +2,10 @@
 // nothing passed beats. From 'all at their first place' they lead to the early assignment, from 'all past their end' to the late one.
 // A round is one pass over the rows for each of its parts.
 ghost use mathlib.Core.Path.{_≡_};
-ghost use mathlib.Core.Bool.{Bool, false, cond, _&&_};
+ghost use mathlib.Core.Bool.{false, cond, _&&_};
 ghost use Prim.Native.Nat.{ℕ, _≤_, _<_, min};
 ghost use lib.ListN.{length};
-ghost use lib.Dec.{eqb, leb};
+ghost use lib.Dec.{leb};
 ghost use Rattle.model.specs.Rows.{keep, table, column};
 ghost use Rattle.model.specs.Contest.{refine, repeat};
 ghost use Rattle.model.specs.Lent.{was, is, col, on, rowsOf};

@@ -1,6 +1,6 @@
 // The rows of its own at which each router stands when the contest of a prefix comes to rest, early and late, over lent columns.
 ghost use mathlib.Core.Path.{_≡_};
-ghost use mathlib.Core.Bool.{Bool, _&&_};
+ghost use mathlib.Core.Bool.{_&&_};
 ghost use Prim.Native.Nat.{ℕ, _≤_, _<_};
 ghost use lib.ListN.{length};
 ghost use lib.Dec.{eqb, ltb};
