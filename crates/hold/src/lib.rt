@@ -1,7 +1,6 @@
 // What each router holds, early and late, over lent columns: what the eight steps give it where the others stand at the rows of
 // their own at which the contest comes to rest.
 ghost use mathlib.Core.Path.{_≡_};
-ghost use Prim.Native.Nat.{ℕ};
 ghost use lib.ListN.{length};
 ghost use Rattle.model.specs.Rows.{table};
 ghost use Rattle.model.specs.Lent.{was, is};
@@ -45,8 +44,8 @@ fn hold(
     }
 }
 
-fn vacant() -> [u16; choice::MOST_ROUTERS] {
-    [rows::NONE; choice::MOST_ROUTERS]
+fn vacant() -> [u16; rows::MOST_ROUTERS] {
+    [rows::NONE; rows::MOST_ROUTERS]
 }
 
 // The early and the late row of each router, in the room that is lent for the rows of its own at which it stands first and last.

@@ -2,13 +2,13 @@
 use Prim.Native.Nat.{ℕ, zero, suc, _+_, _<_, _≤_, min}
 use native.Mathlib.Omega.{arith}
 use mathlib.Core.Path.{_≡_, refl, sym, ap, ap₂, _∙_, fun-ext}
-use mathlib.Core.Bool.{Bool, true, false, cond, _&&_, _||_, not, and-comm, and-assoc, and-self, and-true, and-false, false≢true, true≢false}
+use mathlib.Core.Bool.{Bool, true, false, _&&_, _||_, not, and-comm, and-assoc, and-self, and-true, and-false, false≢true, true≢false}
 use mathlib.Core.List.{List, [], _∷_}
 use lib.Dec.{eqb, ltb, leb}
 use lib.ListN.{length, getD}
 use borrow.Author.Tests.{eqb-true, eqb-false, eq-eqb, ne-eqb, lt-ltb, le-ltb, ltb-true, ltb-false}
 use Rattle.model.specs.Rows.{keep, some, count, span, table, column}
-use Rattle.model.specs.Decision.{Mesh, none, all, ownOf, metric, beats, beatsBy, unbeaten, unbeatenBy, preferred}
+use Rattle.model.specs.Decision.{Mesh, none, all, ownOf, metric, beats, beatsBy, unbeatenBy, preferred}
 use Rattle.model.specs.Stability.{contenders, before, standing}
 use Rattle.model.specs.Contest.{Contest, leastOr, end, passed, firstFree, refine, repeat, beatsOwnBy, aheadBy, contending, placeOf, contest, earliest, latest, top, atPlace}
 use Rattle.model.specs.Lent.{on, rowsOf}

@@ -2,10 +2,10 @@
 // nothing passed beats. From 'all at their first place' they lead to the early assignment, from 'all past their end' to the late one.
 // A round is one pass over the rows for each of its parts.
 ghost use mathlib.Core.Path.{_≡_};
-ghost use mathlib.Core.Bool.{Bool, false, cond, _&&_};
+ghost use mathlib.Core.Bool.{false, cond, _&&_};
 ghost use Prim.Native.Nat.{ℕ, _≤_, _<_, min};
 ghost use lib.ListN.{length};
-ghost use lib.Dec.{eqb, leb};
+ghost use lib.Dec.{leb};
 ghost use Rattle.model.specs.Rows.{keep, table, column};
 ghost use Rattle.model.specs.Contest.{refine, repeat};
 ghost use Rattle.model.specs.Lent.{was, is, col, on, rowsOf};
@@ -60,7 +60,7 @@ fn advance(router: &[u32], place: &[u32], free: &[bool], ends: &[u32], state: &m
     requires { ⌜ (length (now router) ≡ length (now free)) × (length (now place) ≡ length (now free)) × (length (now state) ≡ length (now ends)) × (length (now ends) ≤ mostRouters) × ((q : ℕ) → q < length (now free) → column (now router) q < length (now ends)) ⌝ }
     ensures { λ moved. ⌜ (is state ≡ table (length (was ends)) (nextBy (was router) (was place) (was free) (was ends))) × (moved ≡ false → is state ≡ was state) ⌝ }
 {
-    let mut next = group::past();
+    let mut next = rows::past();
     group::lower(router, place, free, &mut next);
     store(&next, ends, state)
 }
@@ -127,10 +127,6 @@ fn start(late: bool, ends: &[u32], state: &mut [u32])
     }
 }
 
-fn unmarked() -> [bool; rows::MOST_ROWS] {
-    [false; rows::MOST_ROWS]
-}
-
 // Where rounds lead from the late or the early start: with the contest's lists of a prefix, its latest or earliest state of rest.
 pub fn settled(
     late: bool,
@@ -146,8 +142,8 @@ pub fn settled(
     requires { ⌜ length (now state) ≡ length (now ends) ⌝ }
     ensures { λ _. ⌜ is state ≡ settledBy late (was router) (was place) (was group) (was med) (was contends) (was ends) ⌝ }
 {
-    let mut seen = unmarked();
-    let mut free = unmarked();
+    let mut seen = rows::unmarked();
+    let mut free = rows::unmarked();
     let rows = contends.len();
     start(late, ends, state);
     settle(

@@ -1,6 +1,6 @@
 // The rows of its own at which each router stands when the contest of a prefix comes to rest, early and late, over lent columns.
 ghost use mathlib.Core.Path.{_≡_};
-ghost use mathlib.Core.Bool.{Bool, _&&_};
+ghost use mathlib.Core.Bool.{_&&_};
 ghost use Prim.Native.Nat.{ℕ, _≤_, _<_};
 ghost use lib.ListN.{length};
 ghost use lib.Dec.{eqb, ltb};
@@ -60,10 +60,6 @@ fn rows_at(router: &[u32], place: &[u32], contends: &[bool], state: &[u32], own:
     stand(router, place, contends, state, own);
 }
 
-fn unplaced() -> [u32; choice::MOST_ROUTERS] {
-    [0; choice::MOST_ROUTERS]
-}
-
 // The rows at which the routers stand where rounds lead from the late or the early start, in the room that is lent.
 fn rest_in(
     late: bool,
@@ -99,7 +95,7 @@ fn rest(
     requires { ⌜ length (now own) ≡ length (now ends) ⌝ }
     ensures { λ _. ⌜ is own ≡ table (length (was ends)) (standsAt (was router) (was place) (was contends) (settledBy late (was router) (was place) (was group) (was med) (was contends) (was ends))) ⌝ }
 {
-    let mut state = unplaced();
+    let mut state = rows::past();
     let routers = ends.len();
     rest_in(
         late,
@@ -112,10 +108,6 @@ fn rest(
         &mut state[..routers],
         own,
     );
-}
-
-fn unmarked() -> [bool; rows::MOST_ROWS] {
-    [false; rows::MOST_ROWS]
 }
 
 // The early and the late rows at which the routers stand, in the room that is lent.
@@ -164,10 +156,10 @@ pub fn own_rows(
     requires { ⌜ length (now late) ≡ length (now early) ⌝ }
     ensures { λ _. ⌜ RestRows (length (was early)) (columns (was router) (was asn) (was preference) (was path) (was origin) (was med) (was nid) (was peer)) (is early) (is late) ⌝ }
 {
-    let mut contends = unmarked();
-    let mut place = group::past();
-    let mut group = group::past();
-    let mut ends = unplaced();
+    let mut contends = rows::unmarked();
+    let mut place = rows::past();
+    let mut group = rows::past();
+    let mut ends = rows::past();
     let rows = router.len();
     let routers = early.len();
     own_rows_in(

@@ -1,7 +1,7 @@
 -- `stand::stand` meets its contract. Each router has the least of its contenders before q that stand at its place. Assumes nothing.
 use Prim.Native.Nat.{ℕ, _-_, _<_}
 use native.Mathlib.Omega.{arith}
-use mathlib.Core.Path.{_≡_, refl, sym, ap, _∙_, fun-ext}
+use mathlib.Core.Path.{refl, sym, ap, _∙_, fun-ext}
 use mathlib.Core.Bool.{Bool, _&&_, and-assoc}
 use lib.ListN.{length}
 use lib.Dec.{eqb}
