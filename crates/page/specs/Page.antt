@@ -22,11 +22,14 @@ pub record Rows (router held : List ℕ) : Type 0 where
   pub row : (r : ℕ) → r < length held → (getD held r none ≡ none) ⊎ (getD held r none < length router)
 
 -- a prefix's line with the number of routers that differ, and below it router lines, for every router
-abbrev pub prefixText : Mesh → ℕ → ℕ → List ℕ → List ℕ → List ℕ
-prefixText M address bits early late =
-    let number = length (differing M early late) in
+abbrev pub block : ℕ → ℕ → ℕ → (ℕ → ℕ) → ℕ → List ℕ → List ℕ → List ℕ
+block address bits number router routers early late =
     prefixLine address bits number
-    ++ each (λ r. routerLine (not (eqb number 0)) (M .router) r (getD early r none) (getD late r none)) (span 0 (M .routers))
+    ++ each (λ r. routerLine (not (eqb number 0)) router r (getD early r none) (getD late r none)) (span 0 routers)
+
+-- the block of these rows of a mesh
+abbrev pub prefixText : Mesh → ℕ → ℕ → List ℕ → List ℕ → List ℕ
+prefixText M address bits early late = block address bits (length (differing M early late)) (M .router) (M .routers) early late
 
 -- the prefix of a number: its early and its late rows
 abbrev pub prefixOf : Snapshot → ℕ → List ℕ

@@ -8,7 +8,7 @@ ghost use Rattle.model.specs.Decision.{none};
 ghost use Rattle.model.specs.Lent.{was, is, col};
 ghost use Rattle.text.specs.Text.{each, Puts};
 ghost use Rattle.lines.specs.Lines.{routerLine};
-ghost use Rattle.page.specs.Page.{Rows};
+ghost use Rattle.page.specs.Page.{Rows, block};
 
 // Puts the line of every router.
 fn put_routers(
@@ -28,4 +28,23 @@ fn put_routers(
         end = lines::put_router(out, end, unsettled, router, r as u32, early[r], late[r]);
     }
     end
+}
+
+// Puts a prefix's line and those of its routers.
+fn put_block(
+    out: &mut [u8],
+    at: usize,
+    address: u32,
+    bits: u32,
+    number: u32,
+    router: &[u32],
+    early: &[u16],
+    late: &[u16],
+) -> usize
+    requires { ⌜ (length (now late) ≡ length (now early)) × (length (now early) ≤ 64) × (at + 5200 ≤ length (now out)) ⌝ }
+    requires { ⌜ Rows (now router) (now early) × Rows (now router) (now late) ⌝ }
+    ensures { λ end. ⌜ Puts (was out) (is out) at end (block address bits number (col router) (length (was early)) (was early) (was late)) × (end ≤ at + 5200) ⌝ }
+{
+    let head = lines::put_prefix(out, at, address, bits, number);
+    put_routers(out, head, number != 0, router, early, late)
 }
