@@ -1,5 +1,5 @@
 -- What the forecast of one prefix answers, and what it leaves in the two answer areas, for every input.
-use Prim.Native.Nat.{ℕ, _+_, _≤_, _<_}
+use Prim.Native.Nat.{ℕ, _-_, _≤_, _<_}
 use mathlib.Core.Path.{_≡_}
 use mathlib.Core.Bool.{Bool, true, false}
 use mathlib.Core.List.{List, [], _∷_, _++_}
@@ -12,8 +12,6 @@ use Rattle.snapshot.specs.Limits.{mostRouters, mostRoutes}
 use Rattle.snapshot.specs.Ranges.{anyOf}
 use Rattle.snapshot.specs.Format.{Snapshot, Valid}
 use Rattle.snapshot.specs.Tables.{Tables, short, Held, mesh}
-use Rattle.tables.specs.Judging.{start}
-use Rattle.model.specs.Rows.{column}
 use Rattle.model.specs.Contest.{early, late}
 use Rattle.model.specs.Columns.{Columns, columns, Placed}
 use Rattle.model.specs.Decision.{Mesh}
@@ -37,10 +35,6 @@ cut at n c = columns
     (part at n (c .router)) (part at n (c .asn)) (part at n (c .preference)) (part at n (c .path))
     (part at n (c .origin)) (part at n (c .med)) (part at n (c .nid)) (part at n (c .peer))
 
--- a prefix's part of each column
-abbrev pub parts : List ℕ → ℕ → Columns → Columns
-parts routes p c = cut (start routes p) (column routes p) c
-
 -- the word of the routers whose two rows differ, with the number of its ones
 abbrev pub differingOf : Mesh → List ℕ → List ℕ → Differing
 differingOf M early late = record { word = word (differing M early late); number = length (differing M early late) }
@@ -57,11 +51,11 @@ pub record Shown (M : Mesh) (d : Differing) (early₀ early₁ late₀ late₁ :
   pub late-area : late₁ ≡ sets late₀ 0 (late M)
   pub differs : d ≡ differingOf M (early M) (late M)
 
--- the tables have that prefix: its part of each column is inside, within the limits and of known routers, and the areas have room
-pub record Part (counts : Counts) (p : ℕ) (ids distances routes : List ℕ) (c : Columns) (early late : List ℕ) : Type 0 where
-  pub below : p < length routes
-  pub fits : start routes p + column routes p ≤ mostRoutes
-  pub long : mostRoutes ≤ length (c .router)
+-- rows of columns that are inside, within the limits and of known routers; and areas with room for the routers
+pub record Part (routers first end : ℕ) (ids distances : List ℕ) (c : Columns) (early late : List ℕ) : Type 0 where
+  pub ordered : first ≤ end
+  pub fits : end ≤ mostRoutes
+  pub router : mostRoutes ≤ length (c .router)
   pub asn : mostRoutes ≤ length (c .asn)
   pub preference : mostRoutes ≤ length (c .preference)
   pub path : mostRoutes ≤ length (c .path)
@@ -69,9 +63,9 @@ pub record Part (counts : Counts) (p : ℕ) (ids distances routes : List ℕ) (c
   pub med : mostRoutes ≤ length (c .med)
   pub nid : mostRoutes ≤ length (c .nid)
   pub peer : mostRoutes ≤ length (c .peer)
-  pub placed : Placed (counts .routers) ids distances (parts routes p c)
-  pub earlies : counts .routers ≤ length early
-  pub lates : counts .routers ≤ length late
+  pub placed : Placed routers ids distances (cut first (end - first) c)
+  pub earlies : routers ≤ length early
+  pub lates : routers ≤ length late
 
 -- the answer to these counts, tables, prefix number and answer areas, and what the areas hold afterwards; checked in this order
 pub data Forecasts (counts : Counts) (t : Tables) (p : ℕ) (early late : List ℕ) : Outlook → List ℕ → List ℕ → Type 0 where

@@ -1,5 +1,5 @@
 -- The promise of a forecast determines its answer and both areas, and its number says whether a second stable assignment exists.
-use Prim.Native.Nat.{ℕ, _+_, _≤_, _<_}
+use Prim.Native.Nat.{ℕ, _+_, _-_, _≤_, _<_}
 use native.Mathlib.Omega.{arith}
 use mathlib.Core.Path.{_≡_, refl, sym, ap, ap₂, subst, _∙_, fun-ext}
 use mathlib.Core.Logic.{_↔_, inl, inr}
@@ -14,13 +14,13 @@ use Rattle.word.specs.Word.{word, differs, differingIn}
 use Rattle.word.specs.WordLaws.{ones-word}
 use Rattle.snapshot.specs.declared.Counts.{Counts}
 use Rattle.snapshot.specs.Format.{Snapshot, Valid}
-use Rattle.snapshot.specs.Limits.{mostRouters, mostPrefixes}
+use Rattle.snapshot.specs.Limits.{mostRouters, mostRoutes}
 use Rattle.snapshot.specs.Ranges.{anyOf}
 use Rattle.snapshot.specs.RangesLaws.{none-at, none-any}
 use Rattle.snapshot.specs.Tables.{Tables, Held, routesOf, mesh}
 use Rattle.tables.specs.Theorems.{held-one, held-ids, held-distance, held-count, held-fits, held-column, routers-few, routes-few, absent-zero, sound}
-use Rattle.tables.specs.Judging.{Room, Holding}
-use Rattle.model.specs.Rows.{keep, span, table}
+use Rattle.tables.specs.Judging.{Room, Holding, start}
+use Rattle.model.specs.Rows.{keep, span, table, column}
 use Rattle.model.specs.Decision.{Route, Mesh, metric, choice}
 use Rattle.model.specs.Stability.{Between, Only, available, differing}
 use Rattle.model.specs.Contest.{early, late, atPlace, holding, earliest, latest, contest}
@@ -31,7 +31,7 @@ use Rattle.model.specs.Theorems.{forecast, pair-determined, settled-only}
 use Rattle.outlook.specs.declared.Differing.{Differing}
 use Rattle.outlook.specs.declared.Outlook.{Outlook}
 use Rattle.outlook.specs.declared.Outlook.the-variants.{Forecast, Refused}
-use Rattle.outlook.specs.Outlook.{Forecasts, room, noSnapshot, noPrefix, given, differingOf, shortOf, parts, cut, Decided, Shown, Part}
+use Rattle.outlook.specs.Outlook.{Forecasts, room, noSnapshot, noPrefix, given, differingOf, shortOf, cut, Decided, Shown, Part}
 
 -- ---- room
 
@@ -121,6 +121,10 @@ columnsOf rs = columns
     (map (λ r. r .router) rs) (map (λ r. r .asn) rs) (map (λ r. r .preference) rs) (map (λ r. r .path) rs)
     (map (λ r. r .origin) rs) (map (λ r. r .med) rs) (map (λ r. r .nid) rs) (map (λ r. r .peer) rs)
 
+-- a prefix's part of each column
+abbrev pub parts : List ℕ → ℕ → Columns → Columns
+parts routes p c = cut (start routes p) (column routes p) c
+
 -- the columns of tables, but for the marks
 abbrev pub whole : Tables → Columns
 whole t = columns (t .rows .router) (t .rows .asn) (t .rows .preference) (t .rows .path) (t .rows .origin) (t .rows .med) (t .rows .nid) (t .rows .peer)
@@ -199,42 +203,35 @@ decided M {e} {l} {bits} {number} rows w o = record {
     same : differingIn e l ≡ differing M (early M) (late M)
     same = ap (λ (n : ℕ). keep (differs e l) (span 0 n)) size ∙ ap₂ (λ (x y : List ℕ). differing M x y) (rows .early-rows) (rows .late-rows)
 
--- ---- the part of a prefix, cut out by the code
+-- ---- rows at the start of two areas
 
--- what is said of columns cut out here is said of the same columns cut out there
-module _ (ids distances : List ℕ) (c : Columns) where
-  pub placed-cut : {n n′ a a′ k k′ : ℕ} → n ≡ n′ → a ≡ a′ → k ≡ k′ → Placed n ids distances (cut a k c) → Placed n′ ids distances (cut a′ k′ c)
-  placed-cut {n} {n′} {a} {a′} {k} {k′} e f g p =
-      subst (λ (z : ℕ). Placed z ids distances (cut a′ k′ c)) e
-      (subst (λ (z : ℕ). Placed n ids distances (cut z k′ c)) f
-      (subst (λ (z : ℕ). Placed n ids distances (cut a z c)) g p))
+module _ {n n′ : ℕ} (e : n ≡ n′) (ids distances : List ℕ) (c : Columns) where
+  pub placed-again : Placed n ids distances c → Placed n′ ids distances c
+  placed-again p = subst (λ (z : ℕ). Placed z ids distances c) e p
 
-  pub shown-cut : {n n′ a a′ k k′ : ℕ} {d : Differing} {e l early₀ early₁ late₀ late₁ : List ℕ} → n ≡ n′ → a ≡ a′ → k ≡ k′
-      → n ≤ length early₀ → n ≤ length late₀ → early₁ ≡ e ++ drop n early₀ → late₁ ≡ l ++ drop n late₀
-      → Decided (lentMesh n′ ids distances (cut a′ k′ c)) d e l → Shown (lentMesh n ids distances (cut a k c)) d early₀ early₁ late₀ late₁
-  shown-cut {n} {n′} {a} {a′} {k} {k′} {d} {e} {l} {early₀} {early₁} {late₀} {late₁} f g h re rl ee el b =
+  pub shown-again : {d : Differing} {rows lasts early₀ early₁ late₀ late₁ : List ℕ}
+      → n ≤ length early₀ → n ≤ length late₀ → early₁ ≡ rows ++ drop n early₀ → late₁ ≡ lasts ++ drop n late₀
+      → Decided (lentMesh n′ ids distances c) d rows lasts → Shown (lentMesh n ids distances c) d early₀ early₁ late₀ late₁
+  shown-again {d} {rows} {lasts} {early₀} {late₀} re rl ee el b =
       record {
-        early-area = ee ∙ ap (λ (rows : List ℕ). rows ++ drop n early₀) (there .early-rows) ∙ front early₀ (early M) (size (earliest (contest M))) re;
-        late-area = el ∙ ap (λ (rows : List ℕ). rows ++ drop n late₀) (there .late-rows) ∙ front late₀ (late M) (size (latest (contest M))) rl;
+        early-area = ee ∙ ap (λ (x : List ℕ). x ++ drop n early₀) (there .early-rows) ∙ front early₀ (early M) (size (earliest (contest M))) re;
+        late-area = el ∙ ap (λ (x : List ℕ). x ++ drop n late₀) (there .late-rows) ∙ front late₀ (late M) (size (latest (contest M))) rl;
         differs = there .differs;
       }
     where
       M : Mesh
-      M = lentMesh n ids distances (cut a k c)
+      M = lentMesh n ids distances c
 
-      there : Decided M d e l
-      there =
-          subst (λ (z : ℕ). Decided (lentMesh z ids distances (cut a k c)) d e l) (sym f)
-          (subst (λ (z : ℕ). Decided (lentMesh n′ ids distances (cut z k c)) d e l) (sym g)
-          (subst (λ (z : ℕ). Decided (lentMesh n′ ids distances (cut a′ z c)) d e l) (sym h) b))
+      there : Decided M d rows lasts
+      there = subst (λ (z : ℕ). Decided (lentMesh z ids distances c) d rows lasts) (sym e) b
 
       size : (x : List ℕ) → length (holding M x) ≡ n
       size x = table-length n (λ r. choice M r (available M (table n (atPlace M x)) r))
 
-      front : (area rows : List ℕ) → length rows ≡ n → n ≤ length area → rows ++ drop n area ≡ sets area 0 rows
-      front area rows z fits =
-          let e : n ≡ 0 + length rows = omega arith in
-          ap (λ (m : ℕ). rows ++ drop m area) e ∙ sym (sets-eq rows area 0 (omega arith))
+      front : (area x : List ℕ) → length x ≡ n → n ≤ length area → x ++ drop n area ≡ sets area 0 x
+      front area x z fits =
+          let k : n ≡ 0 + length x = omega arith in
+          ap (λ (m : ℕ). x ++ drop m area) k ∙ sym (sets-eq x area 0 (omega arith))
 
 -- ---- the whole call
 
@@ -281,45 +278,55 @@ module _ (counts : Counts) (t : Tables) (p : ℕ) (early₀ late₀ : List ℕ) 
       alike : (f : Route → ℕ) → length (map f (routesOf s p)) ≡ length (map (λ r. r .router) (routesOf s p))
       alike f = one f ∙ sym (one (λ r. r .router))
 
-  -- what the code needs to know of the prefix
-  pub part-of : Part counts p (t .ids) (t .distances) (t .routes) (whole t) early₀ late₀
-  part-of = record {
-    below = (let l = valid-few (holding .valid) in omega (arith, there, roomy .prefixes .routes));
-    fits = omega (arith, held-count roomy (holding .valid) (holding .held) p below, held-fits roomy (holding .valid) (holding .held) p below);
-    long = roomy .prefixes .rows .router;
-    asn = roomy .prefixes .rows .asn;
-    preference = roomy .prefixes .rows .preference;
-    path = roomy .prefixes .rows .path;
-    origin = roomy .prefixes .rows .origin;
-    med = roomy .prefixes .rows .med;
-    nid = roomy .prefixes .rows .nid;
-    peer = roomy .prefixes .rows .peer;
-    placed = subst (Placed (counts .routers) (t .ids) (t .distances)) (sym same-parts) placed;
-    earlies = omega (arith, few, early-room t early₀ late₀ enough);
-    lates = omega (arith, few, late-room t early₀ late₀ enough);
-  }
-    where
-      valid-few : Valid s → length (s .prefixes) ≤ mostPrefixes
-      valid-few v = v .fewPrefixes
+  -- where the code finds the prefix's rows
+  pub inside : p < length (t .routes)
+  inside = omega (arith, there, holding .valid .fewPrefixes, roomy .prefixes .routes)
 
-  -- what the code shows is the forecast
-  pub shown-given : {d : Differing} {early₁ late₁ : List ℕ}
-      → Shown (lentMesh (counts .routers) (t .ids) (t .distances) (parts (t .routes) p (whole t))) d early₀ early₁ late₀ late₁
-      → Forecasts counts t p early₀ late₀ (Forecast d) early₁ late₁
-  shown-given {d} {early₁} {late₁} h =
-      subst (λ (x : Differing). Forecasts counts t p early₀ late₀ (Forecast x) early₁ late₁) (sym answer)
-      (subst (λ (x : List ℕ). Forecasts counts t p early₀ late₀ (Forecast (differingOf (mesh s p) (early L) (late L))) x late₁) (sym (k .early-area))
-      (subst (λ (x : List ℕ). Forecasts counts t p early₀ late₀ (Forecast (differingOf (mesh s p) (early L) (late L))) (sets early₀ 0 (early L)) x) (sym (k .late-area))
-      (given enough s (holding .valid) (holding .held) there (early L) (late L) (lent-between roomy (holding .valid) (holding .held) p there))))
-    where
-      L : Mesh
-      L = lent roomy (holding .valid) (holding .held) p there
+  pub fits-in : start (t .routes) p + column (t .routes) p ≤ mostRoutes
+  fits-in = omega (arith, held-count roomy (holding .valid) (holding .held) p below, held-fits roomy (holding .valid) (holding .held) p below)
 
-      k : Shown L d early₀ early₁ late₀ late₁
-      k = subst (λ (c : Columns). Shown (lentMesh (counts .routers) (t .ids) (t .distances) c) d early₀ early₁ late₀ late₁) same-parts h
+  module _ {first end : ℕ} (f : first ≡ start (t .routes) p) (e : end ≡ first + column (t .routes) p) where
+    cut-is : cut first (end - first) (whole t) ≡ columnsOf (routesOf s p)
+    cut-is =
+        ap₂ (λ (a k : ℕ). cut a k (whole t)) f (let k : end - first ≡ column (t .routes) p = omega arith in k)
+        ∙ same-parts
 
-      answer : d ≡ differingOf (mesh s p) (early L) (late L)
-      answer = k .differs ∙ ap (λ (n : ℕ). counted (keep (differs (early L) (late L)) (span 0 n))) n-is
-        where
-          counted : List ℕ → Differing
-          counted rs = record { word = word rs; number = length rs }
+    -- what the code needs to know of them
+    pub part-of : Part (counts .routers) first end (t .ids) (t .distances) (whole t) early₀ late₀
+    part-of = record {
+      ordered = omega arith;
+      fits = omega (arith, fits-in);
+      router = roomy .prefixes .rows .router;
+      asn = roomy .prefixes .rows .asn;
+      preference = roomy .prefixes .rows .preference;
+      path = roomy .prefixes .rows .path;
+      origin = roomy .prefixes .rows .origin;
+      med = roomy .prefixes .rows .med;
+      nid = roomy .prefixes .rows .nid;
+      peer = roomy .prefixes .rows .peer;
+      placed = subst (Placed (counts .routers) (t .ids) (t .distances)) (sym cut-is) placed;
+      earlies = omega (arith, few, early-room t early₀ late₀ enough);
+      lates = omega (arith, few, late-room t early₀ late₀ enough);
+    }
+
+    -- what the code shows is the forecast
+    pub shown-given : {d : Differing} {early₁ late₁ : List ℕ}
+        → Shown (lentMesh (counts .routers) (t .ids) (t .distances) (cut first (end - first) (whole t))) d early₀ early₁ late₀ late₁
+        → Forecasts counts t p early₀ late₀ (Forecast d) early₁ late₁
+    shown-given {d} {early₁} {late₁} h =
+        subst (λ (x : Differing). Forecasts counts t p early₀ late₀ (Forecast x) early₁ late₁) (sym answer)
+        (subst (λ (x : List ℕ). Forecasts counts t p early₀ late₀ (Forecast (differingOf (mesh s p) (early L) (late L))) x late₁) (sym (k .early-area))
+        (subst (λ (x : List ℕ). Forecasts counts t p early₀ late₀ (Forecast (differingOf (mesh s p) (early L) (late L))) (sets early₀ 0 (early L)) x) (sym (k .late-area))
+        (given enough s (holding .valid) (holding .held) there (early L) (late L) (lent-between roomy (holding .valid) (holding .held) p there))))
+      where
+        L : Mesh
+        L = lent roomy (holding .valid) (holding .held) p there
+
+        k : Shown L d early₀ early₁ late₀ late₁
+        k = subst (λ (c : Columns). Shown (lentMesh (counts .routers) (t .ids) (t .distances) c) d early₀ early₁ late₀ late₁) cut-is h
+
+        answer : d ≡ differingOf (mesh s p) (early L) (late L)
+        answer = k .differs ∙ ap (λ (n : ℕ). counted (keep (differs (early L) (late L)) (span 0 n))) n-is
+          where
+            counted : List ℕ → Differing
+            counted rs = record { word = word rs; number = length rs }

@@ -2,14 +2,14 @@
 use refusal::Refusal;
 use snapshot::Counts;
 ghost use mathlib.Core.Path.{_≡_};
-ghost use Prim.Native.Nat.{_≤_};
+ghost use Prim.Native.Nat.{_-_, _≤_};
 ghost use lib.ListN.{length};
 ghost use Rattle.model.specs.Columns.{columns, lentMesh, Placed};
 ghost use Rattle.model.specs.Lent.{was, is};
 ghost use Rattle.snapshot.specs.Limits.{mostRoutes};
 ghost use Rattle.snapshot.specs.Tables.{tables, columns as rowColumns};
 ghost use Rattle.tables.specs.Judging.{start};
-ghost use Rattle.outlook.specs.Outlook.{parts, Decided, Part, Shown, Forecasts};
+ghost use Rattle.outlook.specs.Outlook.{cut, Decided, Part, Shown, Forecasts};
 
 // The routers whose early and late rows differ: bit r for router r, and how many there are.
 pub struct Differing {
@@ -75,13 +75,14 @@ pub fn decided(
     }
 }
 
-// The same for a prefix of lent tables: the routers' rows go to the start of the areas, the entries past the last router stay.
+// The same for the routes from one row of lent columns to another: the routers' rows go to the start of the areas, the entries past
+// the last router stay.
 pub fn shown(
-    counts: Counts,
-    prefix: usize,
+    routers: usize,
+    first: usize,
+    end: usize,
     ids: &[u32],
     distances: &[u32],
-    routes: &[u32],
     router: &[u32],
     asn: &[u32],
     preference: &[u32],
@@ -93,12 +94,9 @@ pub fn shown(
     early: &mut [u16],
     late: &mut [u16],
 ) -> Differing
-    requires { ⌜ Part counts prefix (now ids) (now distances) (now routes) (columns (now router) (now asn) (now preference) (now path) (now origin) (now med) (now nid) (now peer)) (now early) (now late) ⌝ }
-    ensures { λ d. ⌜ Shown (lentMesh (counts .routers) (was ids) (was distances) (parts (was routes) prefix (columns (was router) (was asn) (was preference) (was path) (was origin) (was med) (was nid) (was peer)))) d (was early) (is early) (was late) (is late) ⌝ }
+    requires { ⌜ Part routers first end (now ids) (now distances) (columns (now router) (now asn) (now preference) (now path) (now origin) (now med) (now nid) (now peer)) (now early) (now late) ⌝ }
+    ensures { λ d. ⌜ Shown (lentMesh routers (was ids) (was distances) (cut first (end - first) (columns (was router) (was asn) (was preference) (was path) (was origin) (was med) (was nid) (was peer)))) d (was early) (is early) (was late) (is late) ⌝ }
 {
-    let routers = counts.routers as usize;
-    let first = start_of(routes, prefix);
-    let end = first + routes[prefix] as usize;
     decided(
         &router[first..end],
         &asn[first..end],
@@ -180,12 +178,15 @@ pub fn forecast(
     if counts.prefixes <= prefix {
         return Outlook::Refused(Refusal::NoPrefix, 0);
     }
+    let p = prefix as usize;
+    let first = start_of(routes, p);
+    let end = first + routes[p] as usize;
     let d = shown(
-        counts,
-        prefix as usize,
+        counts.routers as usize,
+        first,
+        end,
         ids,
         distances,
-        routes,
         router,
         asn,
         preference,

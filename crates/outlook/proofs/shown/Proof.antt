@@ -1,65 +1,22 @@
+use Prim.Native.Nat.{_-_}
 use native.Mathlib.Omega.{arith}
-use Prim.Native.Nat.{_+_, _-_}
-use mathlib.Core.Path.{_≡_, refl, sym, _∙_}
+use mathlib.Core.Path.{refl, sym, _∙_}
 use denote.Ref.{now}
 use lib.ListN.{length-take}
 use lib.Seq.{length-take-le}
-use Rattle.model.specs.Rows.{column}
-use Rattle.model.specs.Columns.{columns}
-use Rattle.outlook.specs.OutlookLaws.{placed-cut, shown-cut}
 use borrow.Author.Needs.{needs}
+use Rattle.model.specs.Columns.{columns}
+use Rattle.outlook.specs.Outlook.{cut}
+use Rattle.outlook.specs.OutlookLaws.{placed-again, shown-again}
 use Rattle.outlook.proofs.shown.Statement.{statement}
 use Rattle.outlook.proofs.shown.Tie as tie
 
 decided-requires : tie.Need-decided-requires
 decided-requires c κs =
     let begun : tie.Start = search needs in
-    let found : tie.After-start-of = search needs in
-    let e = length-take-le (begun .args .counts .routers) (now (begun .args .early)) (begun .pre .earlies) in
-    let k = column (now (begun .args .routes)) (begun .args .prefix) in
-    let first = found .start-of .result in
-    let same : k ≡ (first + k) - first = omega arith in
-    let l = length-take-le (begun .args .counts .routers) (now (begun .args .late)) (begun .pre .lates) in
-    (placed-cut (now (begun .args .ids)) (now (begun .args .distances)) (columns (now (begun .args .router)) (now (begun .args .asn)) (now (begun .args .preference)) (now (begun .args .path)) (now (begun .args .origin)) (now (begun .args .med)) (now (begun .args .nid)) (now (begun .args .peer))) (sym e) (sym (found .start-of .ensures)) same (begun .pre .placed), l ∙ sym e)
-
-mul-decided-6 : tie.Need-mul-decided-6
-mul-decided-6 c =
-    let begun : tie.Start = search needs in
-    let found : tie.After-start-of = search needs in
-    record { fits = omega (arith, found .start-of .ensures, begun .pre .fits) }
-
-mul-decided-7 : tie.Need-mul-decided-7
-mul-decided-7 c =
-    let begun : tie.Start = search needs in
-    let found : tie.After-start-of = search needs in
-    record { fits = omega (arith, found .start-of .ensures, begun .pre .fits) }
-
-mul-decided-8 : tie.Need-mul-decided-8
-mul-decided-8 c =
-    let begun : tie.Start = search needs in
-    let found : tie.After-start-of = search needs in
-    record { fits = omega (arith, found .start-of .ensures, begun .pre .fits) }
-
-part-decided-end-6 : tie.Need-part-decided-end-6
-part-decided-end-6 c =
-    let begun : tie.Start = search needs in
-    let found : tie.After-start-of = search needs in
-    omega (arith, found .start-of .ensures, begun .pre .fits, begun .pre .med)
-
-part-decided-end-7 : tie.Need-part-decided-end-7
-part-decided-end-7 c =
-    let begun : tie.Start = search needs in
-    let found : tie.After-start-of = search needs in
-    omega (arith, found .start-of .ensures, begun .pre .fits, begun .pre .nid)
-
-part-decided-end-8 : tie.Need-part-decided-end-8
-part-decided-end-8 c =
-    let begun : tie.Start = search needs in
-    let found : tie.After-start-of = search needs in
-    omega (arith, found .start-of .ensures, begun .pre .fits, begun .pre .peer)
-
-abbrev found-of : tie.After-decided → tie.After-start-of
-found-of made = search needs
+    let e = length-take-le (begun .args .routers) (now (begun .args .early)) (begun .pre .earlies) in
+    let l = length-take-le (begun .args .routers) (now (begun .args .late)) (begun .pre .lates) in
+    (placed-again (sym e) (now (begun .args .ids)) (now (begun .args .distances)) (cut (begun .args .first) (begun .args .end - begun .args .first) (columns (now (begun .args .router)) (now (begun .args .asn)) (now (begun .args .preference)) (now (begun .args .path)) (now (begun .args .origin)) (now (begun .args .med)) (now (begun .args .nid)) (now (begun .args .peer)))) (begun .pre .placed), l ∙ sym e)
 
 abbrev begun-of : tie.After-decided → tie.Start
 begun-of made = search needs
@@ -68,68 +25,116 @@ returns : tie.Need-returns
 returns c =
     let made : tie.After-decided = search needs in
     let begun = begun-of made in
-    let found = found-of made in
-    let e = length-take-le (begun .args .counts .routers) (now (begun .args .early)) (begun .pre .earlies) in
-    let k = column (now (begun .args .routes)) (begun .args .prefix) in
-    let first = found .start-of .result in
-    let same : k ≡ (first + k) - first = omega arith in
-    shown-cut (now (begun .args .ids)) (now (begun .args .distances)) (columns (now (begun .args .router)) (now (begun .args .asn)) (now (begun .args .preference)) (now (begun .args .path)) (now (begun .args .origin)) (now (begun .args .med)) (now (begun .args .nid)) (now (begun .args .peer))) (sym e) (sym (found .start-of .ensures)) same (begun .pre .earlies) (begun .pre .lates) refl refl (made .decided .ensures)
-
-slice-aggregate-decided : tie.Need-slice-aggregate-decided
-slice-aggregate-decided c =
-    let begun : tie.Start = search needs in
-    simp length-take (omega (arith, begun .pre .earlies))
-
-slice-aggregate-decided-2 : tie.Need-slice-aggregate-decided-2
-slice-aggregate-decided-2 c =
-    let begun : tie.Start = search needs in
-    simp length-take (omega (arith, begun .pre .lates))
+    let e = length-take-le (begun .args .routers) (now (begun .args .early)) (begun .pre .earlies) in
+    shown-again (sym e) (now (begun .args .ids)) (now (begun .args .distances)) (cut (begun .args .first) (begun .args .end - begun .args .first) (columns (now (begun .args .router)) (now (begun .args .asn)) (now (begun .args .preference)) (now (begun .args .path)) (now (begun .args .origin)) (now (begun .args .med)) (now (begun .args .nid)) (now (begun .args .peer)))) (begun .pre .earlies) (begun .pre .lates) refl refl (made .decided .ensures)
 
 pub shown-spec : {M : Type 1} → statement M
 shown-spec =
     tie.close (tie.spec
+    (λ c.
+    let begun : tie.Start = search needs in
+    record { fits = omega (arith, begun .pre .ordered, begun .pre .fits) })
+    (λ c.
+    let begun : tie.Start = search needs in
+    begun .pre .ordered)
+    (λ c.
+    let begun : tie.Start = search needs in
+    begun .pre .ordered)
+    (λ c.
+    let begun : tie.Start = search needs in
+    omega (arith, begun .pre .fits, begun .pre .router))
+    (λ c.
+    let begun : tie.Start = search needs in
+    record { fits = omega (arith, begun .pre .ordered, begun .pre .fits) })
+    (λ c.
+    let begun : tie.Start = search needs in
+    begun .pre .ordered)
+    (λ c.
+    let begun : tie.Start = search needs in
+    begun .pre .ordered)
+    (λ c.
+    let begun : tie.Start = search needs in
+    omega (arith, begun .pre .fits, begun .pre .asn))
+    (λ c.
+    let begun : tie.Start = search needs in
+    record { fits = omega (arith, begun .pre .ordered, begun .pre .fits) })
+    (λ c.
+    let begun : tie.Start = search needs in
+    begun .pre .ordered)
+    (λ c.
+    let begun : tie.Start = search needs in
+    begun .pre .ordered)
+    (λ c.
+    let begun : tie.Start = search needs in
+    omega (arith, begun .pre .fits, begun .pre .preference))
+    (λ c.
+    let begun : tie.Start = search needs in
+    record { fits = omega (arith, begun .pre .ordered, begun .pre .fits) })
+    (λ c.
+    let begun : tie.Start = search needs in
+    begun .pre .ordered)
+    (λ c.
+    let begun : tie.Start = search needs in
+    begun .pre .ordered)
+    (λ c.
+    let begun : tie.Start = search needs in
+    omega (arith, begun .pre .fits, begun .pre .path))
+    (λ c.
+    let begun : tie.Start = search needs in
+    record { fits = omega (arith, begun .pre .ordered, begun .pre .fits) })
+    (λ c.
+    let begun : tie.Start = search needs in
+    begun .pre .ordered)
+    (λ c.
+    let begun : tie.Start = search needs in
+    begun .pre .ordered)
+    (λ c.
+    let begun : tie.Start = search needs in
+    omega (arith, begun .pre .fits, begun .pre .origin))
+    (λ c.
+    let begun : tie.Start = search needs in
+    record { fits = omega (arith, begun .pre .ordered, begun .pre .fits) })
+    (λ c.
+    let begun : tie.Start = search needs in
+    begun .pre .ordered)
+    (λ c.
+    let begun : tie.Start = search needs in
+    begun .pre .ordered)
+    (λ c.
+    let begun : tie.Start = search needs in
+    omega (arith, begun .pre .fits, begun .pre .med))
+    (λ c.
+    let begun : tie.Start = search needs in
+    record { fits = omega (arith, begun .pre .ordered, begun .pre .fits) })
+    (λ c.
+    let begun : tie.Start = search needs in
+    begun .pre .ordered)
+    (λ c.
+    let begun : tie.Start = search needs in
+    begun .pre .ordered)
+    (λ c.
+    let begun : tie.Start = search needs in
+    omega (arith, begun .pre .fits, begun .pre .nid))
+    (λ c.
+    let begun : tie.Start = search needs in
+    record { fits = omega (arith, begun .pre .ordered, begun .pre .fits) })
+    (λ c.
+    let begun : tie.Start = search needs in
+    begun .pre .ordered)
+    (λ c.
+    let begun : tie.Start = search needs in
+    begun .pre .ordered)
+    (λ c.
+    let begun : tie.Start = search needs in
+    omega (arith, begun .pre .fits, begun .pre .peer))
     (λ c. search needs)
-    (λ c κs. search needs)
+    (λ c.
+    let begun : tie.Start = search needs in
+    simp length-take (omega (arith, begun .pre .earlies)))
     (λ c. search needs)
-    (λ c. search needs)
-    (λ c. search needs)
-    (λ c. search needs)
-    (λ c. search needs)
-    (λ c. search needs)
-    (λ c. search needs)
-    (λ c. search needs)
-    (λ c. search needs)
-    (λ c. search needs)
-    (λ c. search needs)
-    (λ c. search needs)
-    (λ c. search needs)
-    (λ c. search needs)
-    (λ c. search needs)
-    (λ c. search needs)
-    (λ c. search needs)
-    (λ c. search needs)
-    (λ c. search needs)
-    (λ c. search needs)
-    (λ c. search needs)
-    (λ c. search needs)
-    (λ c. search needs)
-    (λ c. search needs)
-    mul-decided-6
-    (λ c. search needs)
-    (λ c. search needs)
-    part-decided-end-6
-    mul-decided-7
-    (λ c. search needs)
-    (λ c. search needs)
-    part-decided-end-7
-    mul-decided-8
-    (λ c. search needs)
-    (λ c. search needs)
-    part-decided-end-8
-    (λ c. search needs)
-    slice-aggregate-decided
-    (λ c. search needs)
-    slice-aggregate-decided-2
+    (λ c.
+    let begun : tie.Start = search needs in
+    simp length-take (omega (arith, begun .pre .lates)))
     decided-requires
     (λ c. search needs)
     (λ c. search needs)
