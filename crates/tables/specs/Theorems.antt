@@ -7,7 +7,7 @@ use mathlib.Core.Bool.{Bool, true, false, _||_, _&&_, not}
 use mathlib.Core.List.{List, [], _∷_, map, map-map}
 use lib.ListN.{length, getD, take, drop, length-map}
 use lib.Dec.{T, eqb, ltb}
-use borrow.Author.Tests.{leb-false, eq-eqb, eqb-false}
+use borrow.Author.Tests.{leb-false, ltb-false, eq-eqb, eqb-false}
 use mir.Facts.{or-yes, and-yes, ltb-yes, eqb-yes}
 use Rattle.model.specs.Rows.{span, table, column, some}
 use Rattle.model.specs.Decision.{Route, Mesh}
@@ -16,16 +16,41 @@ use Rattle.model.specs.SoundLaws.{Rising, rising-sound}
 use Rattle.model.specs.LoopLaws.{table-length, table-at}
 use Rattle.snapshot.specs.declared.Counts.{Counts}
 use Rattle.snapshot.specs.Limits.{mostRouters, mostInPrefix, mostRoutes}
-use Rattle.snapshot.specs.Ranges.{routeTests, rises, risesRoute}
-use Rattle.snapshot.specs.RangesLaws.{none-at}
+use Rattle.snapshot.specs.Ranges.{anyOf, routeTests, rises, risesRoute}
+use Rattle.snapshot.specs.RangesLaws.{none-at, none-any}
 use Rattle.snapshot.specs.Format.{Prefix, Snapshot, Each, GoodId, GoodRoute, GoodPrefix, latest, distance, Valid}
-use Rattle.snapshot.specs.Tables.{Tables, Held, routesOf, mesh}
+use Rattle.snapshot.specs.Tables.{Tables, short, Held, routesOf, mesh}
 use Rattle.snapshot.specs.ChecksLaws.{count-range}
 use Rattle.tables.specs.Judging.{Room, routeAt, start, routesAt, prefixAt, cell, snapshotOf, Holding}
 use Rattle.tables.specs.ListsLaws.{map-at, as-table, each-below, latest-table, table-none, table-part, table-take}
 use Rattle.tables.specs.HeldLaws.{no-prefix, no-route, few, n-is, cell-is, held-is}
 use Rattle.tables.specs.PartsLaws.{and-zero, holding-parts}
 use Rattle.tables.specs.JudgeLaws.{off, start-next, start-up}
+
+-- where no table is shorter than its limit, each has its room
+pub has-room : (t : Tables) → anyOf (short t) ≡ false → Room t
+has-room t e =
+    let each = none-at (short t) (none-any (short t) e) in
+    record {
+      ids = ltb-false _ _ (each 0);
+      distances = ltb-false _ _ (each 1);
+      prefixes = record {
+        address = ltb-false _ _ (each 2);
+        bits = ltb-false _ _ (each 3);
+        routes = ltb-false _ _ (each 4);
+        rows = record {
+          router = ltb-false _ _ (each 5);
+          asn = ltb-false _ _ (each 6);
+          preference = ltb-false _ _ (each 7);
+          path = ltb-false _ _ (each 8);
+          origin = ltb-false _ _ (each 9);
+          mark = ltb-false _ _ (each 10);
+          med = ltb-false _ _ (each 11);
+          nid = ltb-false _ _ (each 12);
+          peer = ltb-false _ _ (each 13);
+        };
+      };
+    }
 
 -- two valid snapshots that are held by the same counts and tables are one
 pub held-one : {counts : Counts} {t : Tables} {s u : Snapshot} → Room t → Valid s → Held counts t s → Valid u → Held counts t u → s ≡ u

@@ -9,8 +9,43 @@ ghost use Rattle.model.specs.Lent.{was, col};
 ghost use Rattle.snapshot.specs.Limits.{mostRouters, roomDistances, mostPrefixes, mostRoutes};
 ghost use Rattle.snapshot.specs.Ranges.{anyOf};
 ghost use Rattle.snapshot.specs.Plain.{routeIs};
-ghost use Rattle.snapshot.specs.Tables.{columns, tables};
+ghost use Rattle.snapshot.specs.Tables.{columns, tables, short};
 ghost use Rattle.tables.specs.Judging.{RoomRows, RoomPrefixes, Room, prefixTables, routeAt, start, cellTests, lateAt, IdGood, CellGood, RouteGood, PrefixGood, Below, InRange, Totalled, Decides, Judged};
+
+// Whether a table is shorter than its limit (ROOM).
+pub fn lacks_room(
+    ids: &[u32],
+    distances: &[u32],
+    address: &[u32],
+    bits: &[u32],
+    routes: &[u32],
+    router: &[u32],
+    asn: &[u32],
+    preference: &[u32],
+    path: &[u32],
+    origin: &[u32],
+    mark: &[u32],
+    med: &[u32],
+    nid: &[u32],
+    peer: &[u32],
+) -> bool
+    ensures { λ r. ⌜ r ≡ anyOf (short (tables (was ids) (was distances) (was address) (was bits) (was routes) (columns (was router) (was asn) (was preference) (was path) (was origin) (was mark) (was med) (was nid) (was peer)))) ⌝ }
+{
+    (ids.len() < snapshot::MOST_ROUTERS as usize)
+        | (distances.len() < snapshot::ROOM_DISTANCES)
+        | (address.len() < snapshot::MOST_PREFIXES as usize)
+        | (bits.len() < snapshot::MOST_PREFIXES as usize)
+        | (routes.len() < snapshot::MOST_PREFIXES as usize)
+        | (router.len() < snapshot::MOST_ROUTES as usize)
+        | (asn.len() < snapshot::MOST_ROUTES as usize)
+        | (preference.len() < snapshot::MOST_ROUTES as usize)
+        | (path.len() < snapshot::MOST_ROUTES as usize)
+        | (origin.len() < snapshot::MOST_ROUTES as usize)
+        | (mark.len() < snapshot::MOST_ROUTES as usize)
+        | (med.len() < snapshot::MOST_ROUTES as usize)
+        | (nid.len() < snapshot::MOST_ROUTES as usize)
+        | (peer.len() < snapshot::MOST_ROUTES as usize)
+}
 
 // Whether counts are in their ranges.
 fn counts_good(counts: snapshot::Counts) -> bool
