@@ -1,5 +1,5 @@
 -- Bytes put into a slice at a place.
-use Prim.Native.Nat.{ℕ, _+_}
+use Prim.Native.Nat.{ℕ, _+_, _≤_}
 use mathlib.Core.Path.{_≡_}
 use mathlib.Core.List.{List, [], _∷_}
 use lib.ListN.{length}
@@ -19,6 +19,10 @@ backWidths = 1 ∷ 1 ∷ 4 ∷ 4 ∷ 4 ∷ []
 
 abbrev pub backFields : Route → List ℕ
 backFields r = r .origin ∷ r .mark ∷ r .med ∷ r .nid ∷ r .peer ∷ []
+
+-- there is room for these bytes from a place on
+pub record Space (bytes out : List ℕ) (at : ℕ) : Type 0 where
+  pub fits : at + length bytes ≤ length out
 
 -- these bytes stand from a place on in what else is as before, and the next place is behind them
 pub record Puts (bytes before : List ℕ) (at : ℕ) (after : List ℕ) (next : ℕ) : Type 0 where

@@ -8,7 +8,7 @@ use lib.Seq.{sets, length-sets}
 use Rattle.wire.specs.Numbers.{bytesOf}
 use Rattle.wire.specs.NumbersLaws.{length-bytes}
 use Rattle.snapshot.specs.Records.{Form, spread, written}
-use Rattle.records.specs.Putting.{Puts}
+use Rattle.records.specs.Putting.{Space, Puts}
 
 pub sets-append : (d : List ℕ) (at : ℕ) (xs ys : List ℕ) → sets d at (xs ++ ys) ≡ sets (sets d at xs) (at + length xs) ys
 sets-append d at [] ys = ap (λ (k : ℕ). sets d k ys) (let e : at ≡ at + 0 = omega arith in e)
@@ -49,8 +49,8 @@ pub record Left (goal : List ℕ) (end : ℕ) (out : List ℕ) (at : ℕ) (bytes
   pub room : end ≤ length out
 
 module _ {out : List ℕ} {at : ℕ} where
-  pub left : (bytes : List ℕ) → at + length bytes ≤ length out → Left (sets out at bytes) (at + length bytes) out at bytes
-  left bytes h = record { same = refl; place = refl; room = h }
+  pub left : {bytes : List ℕ} → Space bytes out at → Left (sets out at bytes) (at + length bytes) out at bytes
+  left space = record { same = refl; place = refl; room = space .fits }
 
 module _ {goal : List ℕ} {end : ℕ} {out : List ℕ} {at : ℕ} where
   -- the first of them are put
@@ -67,12 +67,12 @@ module _ {goal : List ℕ} {end : ℕ} {out : List ℕ} {at : ℕ} where
       }
 
   -- there is room for the first of them
-  pub left-room : (xs ys : List ℕ) → Left goal end out at (xs ++ ys) → at + length xs ≤ length out
+  pub left-room : (xs ys : List ℕ) → Left goal end out at (xs ++ ys) → Space xs out at
   left-room xs ys l =
       let all = length-append xs ys in
       let place = l .place in
       let room = l .room in
-      omega arith
+      record { fits = omega arith }
 
   -- the same bytes, said otherwise
   pub left-as : {xs ys : List ℕ} → xs ≡ ys → Left goal end out at xs → Left goal end out at ys
@@ -83,3 +83,29 @@ module _ {goal : List ℕ} {end : ℕ} {out : List ℕ} {at : ℕ} where
 
   pub left-end : Left goal end out at [] → at ≡ end
   left-end l = let e = l .place in omega arith
+
+-- ---- one part after the other
+
+module _ {xs ys before mid after : List ℕ} {at m next : ℕ} where
+  pub puts-append : Puts xs before at mid m → Puts ys mid m after next → Puts (xs ++ ys) before at after next
+  puts-append p q =
+      let all = length-append xs ys in
+      let one = p .place in
+      let two = q .place in
+      record {
+        same = q .same ∙ ap (λ (d : List ℕ). sets d m ys) (p .same) ∙ ap (λ (k : ℕ). sets (sets before at xs) k ys) one ∙ sym (sets-append before at xs ys);
+        place = omega arith;
+      }
+
+-- where there is room for both, there is room for the first, and behind it for the second
+module _ {before : List ℕ} {at : ℕ} (xs ys : List ℕ) (space : Space (xs ++ ys) before at) where
+  pub space-first : Space xs before at
+  space-first = let all = length-append xs ys in let l = space .fits in record { fits = omega arith }
+
+  pub space-then : {mid : List ℕ} {m : ℕ} → Puts xs before at mid m → Space ys mid m
+  space-then {mid} p =
+      let all = length-append xs ys in
+      let place = p .place in
+      let l = space .fits in
+      let long : length mid ≡ length before = ap length (p .same) ∙ length-sets before at xs in
+      record { fits = omega arith }

@@ -239,7 +239,7 @@ pub start-next : (routes : List ℕ) (p : ℕ) → start routes (p + 1) ≡ star
 unfolding start
 start-next routes p = rw add-one
 
-start-first : (routes : List ℕ) → start routes 0 ≡ 0
+pub start-first : (routes : List ℕ) → start routes 0 ≡ 0
 unfolding start
 start-first routes = refl
 

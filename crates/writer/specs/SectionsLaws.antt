@@ -15,10 +15,10 @@ use Rattle.snapshot.specs.Records.{routerForm, distanceForm, prefixForm, routeF
 use Rattle.snapshot.specs.Format.{Prefix, Pair, row, rows, pairs, routersBytes, distancesBytes, routesBytes, prefixesBytes, routeFields}
 use Rattle.snapshot.specs.Tables.{Columns, Tables}
 use Rattle.snapshot.specs.PairsLaws.{due-row, due-equal, due-other, due-row-end, due-end}
-use Rattle.tables.specs.Judging.{routeAt, routesAt, prefixAt, cell}
-use Rattle.records.specs.Putting.{Puts}
+use Rattle.tables.specs.Judging.{routeAt, start, routesAt, prefixAt, cell}
+use Rattle.records.specs.Putting.{Space, Puts}
 use Rattle.records.specs.PuttingLaws.{Left, left, left-next, left-room, left-as, left-done, left-end}
-use Rattle.writer.specs.Writing.{pairsBytes, rowBytes, rowsBytes, prefixBytes}
+use Rattle.writer.specs.Writing.{pairsBytes, rowBytes, rowsBytes, prefixFrom, prefixBytes}
 
 -- the k-th part is the first of what is left from it on
 pub record Step (bytes : ℕ → List ℕ) (k : ℕ) (part : List ℕ) : Type 0 where
@@ -30,12 +30,12 @@ pub record Section (bytes : ℕ → List ℕ) (n : ℕ) (whole before : List ℕ
   pub left : Left (sets before first whole) (first + length whole) out at (bytes k)
 
 module _ {bytes : ℕ → List ℕ} {n : ℕ} {whole before : List ℕ} {first : ℕ} where
-  pub section : bytes 0 ≡ whole → first + length whole ≤ length before → Section bytes n whole before first 0 before first
-  section e h = record { within = zero-le; left = left-as (sym e) (left whole h) }
+  pub section : bytes 0 ≡ whole → Space whole before first → Section bytes n whole before first 0 before first
+  section e h = record { within = zero-le; left = left-as (sym e) (left h) }
 
   module _ {k : ℕ} {out : List ℕ} {at : ℕ} (s : Section bytes n whole before first k out at) where
     module _ {part : List ℕ} (l : k < n) (step : Step bytes k part) where
-      pub section-room : at + length part ≤ length out
+      pub section-room : Space part out at
       section-room = left-room part (bytes (k + 1)) (left-as (step .first) (s .left))
 
       pub section-next : {after : List ℕ} {next : ℕ} → after ≡ sets out at part → next ≡ at + length part → Section bytes n whole before first (k + 1) after next
@@ -140,11 +140,14 @@ module _ (t : Tables) (n : ℕ) where
   pub prefixes-first : prefixesFrom t n 0 ≡ prefixesBytes (table n (prefixAt t))
   prefixes-first = rw sub-zero
 
-  pub prefixes-next : (p : ℕ) → p < n → Step (prefixesFrom t n) p (prefixBytes (prefixAt t p))
-  prefixes-next p l = record {
+  at-start : (p : ℕ) → p < n → Step (prefixesFrom t n) p (prefixBytes (prefixAt t p))
+  at-start p l = record {
     first = ap (λ (l : List ℕ). prefixesBytes (map (prefixAt t) l)) (rest-next p n l)
         ∙ sym (append-assoc (written prefixForm (column (t .address) p ∷ column (t .bits) p ∷ [])) (routesBytes (prefixAt t p .routes)) (prefixesFrom t n (p + 1)));
   }
+
+  pub prefixes-next : (p row : ℕ) → p < n → row ≡ start (t .routes) p → Step (prefixesFrom t n) p (prefixBytes (prefixFrom t p row))
+  prefixes-next p row l e = subst (λ (row : ℕ). Step (prefixesFrom t n) p (prefixBytes (prefixFrom t p row))) (sym e) (at-start p l)
 
   pub prefixes-last : prefixesFrom t n n ≡ []
   prefixes-last = ap (λ (l : List ℕ). prefixesBytes (map (prefixAt t) l)) (rest-end n n (omega arith))

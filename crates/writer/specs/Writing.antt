@@ -14,7 +14,7 @@ use Rattle.snapshot.specs.Ranges.{anyOf, none}
 use Rattle.snapshot.specs.Records.{countForm, prefixForm, written}
 use Rattle.snapshot.specs.Format.{Prefix, Snapshot, Pair, row, pairs, routersBytes, distancesBytes, routesBytes, encode, Valid}
 use Rattle.snapshot.specs.Tables.{Tables, short, Held}
-use Rattle.tables.specs.Judging.{cell, Holding}
+use Rattle.tables.specs.Judging.{routesAt, cell, Holding}
 use Rattle.writer.specs.declared.Write.{Write}
 use Rattle.writer.specs.declared.Write.the-variants.{Written, Refused}
 
@@ -65,6 +65,10 @@ rowsBytes ds n = pairsBytes ds (pairs n)
 -- all records before the prefixes
 abbrev pub networkBytes : List ℕ → List ℕ → ℕ → List ℕ
 networkBytes ids ds n = written countForm (n ∷ []) ++ (routersBytes 0 (table n (column ids)) ++ rowsBytes ds n)
+
+-- the prefix of a number, with its routes from a row on
+abbrev pub prefixFrom : Tables → ℕ → ℕ → Prefix
+prefixFrom t p row = record { address = column (t .address) p; bits = column (t .bits) p; routes = routesAt (t .rows) row (column (t .routes) p) }
 
 -- a prefix with its routes
 abbrev pub prefixBytes : Prefix → List ℕ

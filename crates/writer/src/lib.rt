@@ -8,8 +8,8 @@ ghost use Rattle.snapshot.specs.Limits.{mostRouters, roomDistances, mostPrefixe
 ghost use Rattle.snapshot.specs.Format.{routersBytes, prefixesBytes, routesBytes, encode};
 ghost use Rattle.snapshot.specs.Tables.{columns, tables};
 ghost use Rattle.tables.specs.Judging.{RoomRows, RoomPrefixes, Room, prefixTables, start, routesAt, prefixAt, snapshotOf, InRange, Parts};
-ghost use Rattle.records.specs.Putting.{Puts};
-ghost use Rattle.writer.specs.Writing.{rowBytes, rowsBytes, networkBytes, prefixBytes, pairCount, sizeOf, recordsOf, said, Writes};
+ghost use Rattle.records.specs.Putting.{Space, Puts};
+ghost use Rattle.writer.specs.Writing.{rowBytes, rowsBytes, networkBytes, prefixFrom, prefixBytes, pairCount, sizeOf, recordsOf, said, Writes};
 
 use refusal::Refusal;
 use snapshot::Counts;
@@ -22,7 +22,7 @@ pub enum Write {
 
 // The router records.
 fn put_ids(n: usize, ids: &[u32], out: &mut [u8], first: usize) -> usize
-    requires { ⌜ (n ≤ mostRouters) × (mostRouters ≤ length (now ids)) × (first + length (routersBytes 0 (table n (column (now ids)))) ≤ length (now out)) ⌝ }
+    requires { ⌜ (n ≤ mostRouters) × (mostRouters ≤ length (now ids)) × Space (routersBytes 0 (table n (column (now ids)))) (now out) first ⌝ }
     ensures { λ r. ⌜ Puts (routersBytes 0 (table n (col ids))) (was out) first (is out) r ⌝ }
 {
     let mut at = first;
@@ -37,7 +37,7 @@ fn put_ids(n: usize, ids: &[u32], out: &mut [u8], first: usize) -> usize
 
 // The distance records from one router.
 fn put_row(n: usize, distances: &[u32], from: usize, out: &mut [u8], first: usize) -> usize
-    requires { ⌜ (n ≤ mostRouters) × (from < n) × (roomDistances ≤ length (now distances)) × (first + length (rowBytes (now distances) n from) ≤ length (now out)) ⌝ }
+    requires { ⌜ (n ≤ mostRouters) × (from < n) × (roomDistances ≤ length (now distances)) × Space (rowBytes (now distances) n from) (now out) first ⌝ }
     ensures { λ r. ⌜ Puts (rowBytes (was distances) n from) (was out) first (is out) r ⌝ }
 {
     let mut at = first;
@@ -56,7 +56,7 @@ fn put_row(n: usize, distances: &[u32], from: usize, out: &mut [u8], first: usiz
 
 // The distance records.
 fn put_distances(n: usize, distances: &[u32], out: &mut [u8], first: usize) -> usize
-    requires { ⌜ (n ≤ mostRouters) × (roomDistances ≤ length (now distances)) × (first + length (rowsBytes (now distances) n) ≤ length (now out)) ⌝ }
+    requires { ⌜ (n ≤ mostRouters) × (roomDistances ≤ length (now distances)) × Space (rowsBytes (now distances) n) (now out) first ⌝ }
     ensures { λ r. ⌜ Puts (rowsBytes (was distances) n) (was out) first (is out) r ⌝ }
 {
     let mut at = first;
@@ -71,7 +71,7 @@ fn put_distances(n: usize, distances: &[u32], out: &mut [u8], first: usize) -> u
 // The records that come before the prefixes: the number of routers, the routers, the distances.
 fn put_network(n: usize, ids: &[u32], distances: &[u32], out: &mut [u8]) -> usize
     requires { ⌜ (n ≤ mostRouters) × (mostRouters ≤ length (now ids)) × (roomDistances ≤ length (now distances))
-        × (0 + length (networkBytes (now ids) (now distances) n) ≤ length (now out)) ⌝ }
+        × Space (networkBytes (now ids) (now distances) n) (now out) 0 ⌝ }
     ensures { λ r. ⌜ Puts (networkBytes (was ids) (was distances) n) (was out) 0 (is out) r ⌝ }
 {
     records::put_count(out, 0, n as u32);
@@ -95,7 +95,7 @@ fn put_routes(
     out: &mut [u8],
     first: usize,
 ) -> usize
-    requires { ⌜ (row + count ≤ mostRoutes) × RoomRows (columns (now router) (now asn) (now preference) (now path) (now origin) (now mark) (now med) (now nid) (now peer)) × (first + length (routesBytes (routesAt (columns (now router) (now asn) (now preference) (now path) (now origin) (now mark) (now med) (now nid) (now peer)) row count)) ≤ length (now out)) ⌝ }
+    requires { ⌜ (row + count ≤ mostRoutes) × RoomRows (columns (now router) (now asn) (now preference) (now path) (now origin) (now mark) (now med) (now nid) (now peer)) × Space (routesBytes (routesAt (columns (now router) (now asn) (now preference) (now path) (now origin) (now mark) (now med) (now nid) (now peer)) row count)) (now out) first ⌝ }
     ensures { λ r. ⌜ Puts (routesBytes (routesAt (columns (was router) (was asn) (was preference) (was path) (was origin) (was mark) (was med) (was nid) (was peer)) row count)) (was out) first (is out) r ⌝ }
 {
     let mut at = first;
@@ -127,9 +127,9 @@ fn put_prefix(
     out: &mut [u8],
     first: usize,
 ) -> usize
-    requires { ⌜ (p < mostPrefixes) × (row ≡ start (now routes) p) × (row + column (now routes) p ≤ mostRoutes)
-        × RoomPrefixes (prefixTables (now address) (now bits) (now routes) (columns (now router) (now asn) (now preference) (now path) (now origin) (now mark) (now med) (now nid) (now peer))) × (first + length (prefixBytes (prefixAt (prefixTables (now address) (now bits) (now routes) (columns (now router) (now asn) (now preference) (now path) (now origin) (now mark) (now med) (now nid) (now peer))) p)) ≤ length (now out)) ⌝ }
-    ensures { λ r. ⌜ Puts (prefixBytes (prefixAt (prefixTables (was address) (was bits) (was routes) (columns (was router) (was asn) (was preference) (was path) (was origin) (was mark) (was med) (was nid) (was peer))) p)) (was out) first (is out) r ⌝ }
+    requires { ⌜ (p < mostPrefixes) × (row + column (now routes) p ≤ mostRoutes)
+        × RoomPrefixes (prefixTables (now address) (now bits) (now routes) (columns (now router) (now asn) (now preference) (now path) (now origin) (now mark) (now med) (now nid) (now peer))) × Space (prefixBytes (prefixFrom (prefixTables (now address) (now bits) (now routes) (columns (now router) (now asn) (now preference) (now path) (now origin) (now mark) (now med) (now nid) (now peer))) p row)) (now out) first ⌝ }
+    ensures { λ r. ⌜ Puts (prefixBytes (prefixFrom (prefixTables (was address) (was bits) (was routes) (columns (was router) (was asn) (was preference) (was path) (was origin) (was mark) (was med) (was nid) (was peer))) p row)) (was out) first (is out) r ⌝ }
 {
     let count = routes[p] as usize;
     records::put_prefix(out, first, address[p], bits[p]);
@@ -155,7 +155,7 @@ fn put_prefixes(
     first: usize,
 ) -> usize
     requires { ⌜ (n ≤ mostPrefixes) × (start (now routes) n ≤ mostRoutes) × RoomPrefixes (prefixTables (now address) (now bits) (now routes) (columns (now router) (now asn) (now preference) (now path) (now origin) (now mark) (now med) (now nid) (now peer)))
-        × (first + length (prefixesBytes (table n (prefixAt (prefixTables (now address) (now bits) (now routes) (columns (now router) (now asn) (now preference) (now path) (now origin) (now mark) (now med) (now nid) (now peer)))))) ≤ length (now out)) ⌝ }
+        × Space (prefixesBytes (table n (prefixAt (prefixTables (now address) (now bits) (now routes) (columns (now router) (now asn) (now preference) (now path) (now origin) (now mark) (now med) (now nid) (now peer)))))) (now out) first ⌝ }
     ensures { λ r. ⌜ Puts (prefixesBytes (table n (prefixAt (prefixTables (was address) (was bits) (was routes) (columns (was router) (was asn) (was preference) (was path) (was origin) (was mark) (was med) (was nid) (was peer)))))) (was out) first (is out) r ⌝ }
 {
     let mut at = first;
@@ -216,7 +216,7 @@ fn put_snapshot(
     peer: &[u32],
     out: &mut [u8],
 ) -> usize
-    requires { ⌜ Room (tables (now ids) (now distances) (now address) (now bits) (now routes) (columns (now router) (now asn) (now preference) (now path) (now origin) (now mark) (now med) (now nid) (now peer))) × Parts counts (tables (now ids) (now distances) (now address) (now bits) (now routes) (columns (now router) (now asn) (now preference) (now path) (now origin) (now mark) (now med) (now nid) (now peer))) × (0 + length (encode (snapshotOf counts (tables (now ids) (now distances) (now address) (now bits) (now routes) (columns (now router) (now asn) (now preference) (now path) (now origin) (now mark) (now med) (now nid) (now peer))))) ≤ length (now out)) ⌝ }
+    requires { ⌜ Room (tables (now ids) (now distances) (now address) (now bits) (now routes) (columns (now router) (now asn) (now preference) (now path) (now origin) (now mark) (now med) (now nid) (now peer))) × Parts counts (tables (now ids) (now distances) (now address) (now bits) (now routes) (columns (now router) (now asn) (now preference) (now path) (now origin) (now mark) (now med) (now nid) (now peer))) × Space (encode (snapshotOf counts (tables (now ids) (now distances) (now address) (now bits) (now routes) (columns (now router) (now asn) (now preference) (now path) (now origin) (now mark) (now med) (now nid) (now peer))))) (now out) 0 ⌝ }
     ensures { λ r. ⌜ Puts (encode (snapshotOf counts (tables (was ids) (was distances) (was address) (was bits) (was routes) (columns (was router) (was asn) (was preference) (was path) (was origin) (was mark) (was med) (was nid) (was peer))))) (was out) 0 (is out) r ⌝ }
 {
     let records = record_count(counts);

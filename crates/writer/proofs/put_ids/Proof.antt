@@ -29,7 +29,7 @@ put-ids-spec =
     (λ c κs.
     let start : tie.Start Inv-loop μ-loop = search needs in
     let turn : tie.In-loop Inv-loop μ-loop = search needs in
-    section-room (turn .before .loop .inv) (turn .loop-test .taken) (ids-next (now (start .args .ids)) (start .args .n) (turn .before .loop .k) (turn .loop-test .taken)))
+    section-room (turn .before .loop .inv) (turn .loop-test .taken) (ids-next (now (start .args .ids)) (start .args .n) (turn .before .loop .k) (turn .loop-test .taken)) .fits)
     (λ c.
     let start : tie.Start Inv-loop μ-loop = search needs in
     let turn : tie.In-loop Inv-loop μ-loop = search needs in

@@ -1,43 +1,49 @@
+-- `put_network` meets its contract. Assumes nothing.
+use mathlib.Core.Path.{refl}
+use mathlib.Core.List.{[], _∷_, _++_}
+use denote.Ref.{now}
 use borrow.Author.Needs.{needs}
+use Rattle.model.specs.Rows.{table, column}
+use Rattle.snapshot.specs.Records.{countForm, written}
+use Rattle.snapshot.specs.Format.{routersBytes}
+use Rattle.records.specs.PuttingLaws.{puts-append, space-first, space-then}
+use Rattle.writer.specs.Writing.{rowsBytes}
 use Rattle.writer.proofs.put_network.Statement.{statement}
 use Rattle.writer.proofs.put_network.Tie as tie
-use Rattle.writer.proofs.put_network.Reads as reads
-use Rattle.writer.proofs.put_network.Lts as lts
-use Rattle.records.proofs.put_count.Reads as put-count-reads
-use Rattle.writer.proofs.put_distances.Reads as put-distances-reads
-use Rattle.writer.proofs.put_ids.Reads as put-ids-reads
 
--- src/lib.rt:77:32
-cast-put-count : tie.Need-cast-put-count
-cast-put-count c = search needs
-
--- src/lib.rt:77:5
-put-count-requires : tie.Need-put-count-requires
-put-count-requires c κs = search needs
-
--- src/lib.rt:78:9
 put-ids-requires : tie.Need-put-ids-requires
-put-ids-requires c κs = ?
+put-ids-requires c κs =
+    let start : tie.Start = search needs in
+    let a = start .args in
+    let one : tie.After-put-count = search needs in
+    (start .pre .0, start .pre .1,
+      space-first (routersBytes 0 (table (a .n) (column (now (a .ids))))) (rowsBytes (now (a .distances)) (a .n)) (space-then (written countForm (a .n ∷ [])) ((routersBytes 0 (table (a .n) (column (now (a .ids))))) ++ (rowsBytes (now (a .distances)) (a .n))) (start .pre .3) (record { same = one .put-count .ensures; place = refl })))
 
--- src/lib.rt:79:5
 put-distances-requires : tie.Need-put-distances-requires
-put-distances-requires c κs = ?
+put-distances-requires c κs =
+    let start : tie.Start = search needs in
+    let a = start .args in
+    let one : tie.After-put-count = search needs in
+    let two : tie.After-put-ids = search needs in
+    (start .pre .0, start .pre .2,
+      space-then (routersBytes 0 (table (a .n) (column (now (a .ids))))) (rowsBytes (now (a .distances)) (a .n)) (space-then (written countForm (a .n ∷ [])) ((routersBytes 0 (table (a .n) (column (now (a .ids))))) ++ (rowsBytes (now (a .distances)) (a .n))) (start .pre .3) (record { same = one .put-count .ensures; place = refl })) (two .put-ids .ensures))
 
--- src/lib.rt:72:1
-same-length : tie.Need-same-length
-same-length c = search needs
-
--- src/lib.rt:72:1
 returns : tie.Need-returns
-returns c = ?
+returns c =
+    let start : tie.Start = search needs in
+    let a = start .args in
+    let one : tie.After-put-count = search needs in
+    let two : tie.After-put-ids = search needs in
+    let three : tie.After-put-distances = search needs in
+    puts-append {xs = written countForm (a .n ∷ [])} (record { same = one .put-count .ensures; place = refl }) (puts-append (two .put-ids .ensures) (three .put-distances .ensures))
 
 pub put-network-spec : {M : Type 1} → statement M
 put-network-spec =
     tie.close
     (tie.spec
-    cast-put-count
-    put-count-requires
+    (λ c. search needs)
+    (λ c κs. search needs)
     put-ids-requires
     put-distances-requires
-    same-length
+    (λ c. search needs)
     returns)

@@ -39,7 +39,7 @@ put-routes-spec =
     (λ c κs.
     let start : tie.Start Inv-loop μ-loop = search needs in
     let turn : tie.In-loop Inv-loop μ-loop = search needs in
-    section-room (turn .before .loop .inv) (turn .loop-test .taken) (routes-next (lent start) (start .args .row) (start .args .count) (turn .before .loop .k) (turn .loop-test .taken)))
+    section-room (turn .before .loop .inv) (turn .loop-test .taken) (routes-next (lent start) (start .args .row) (start .args .count) (turn .before .loop .k) (turn .loop-test .taken)) .fits)
     (λ c.
     let start : tie.Start Inv-loop μ-loop = search needs in
     let turn : tie.In-loop Inv-loop μ-loop = search needs in

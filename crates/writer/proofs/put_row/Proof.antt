@@ -38,7 +38,7 @@ put-row-spec =
     let start : tie.Start Inv-loop μ-loop = search needs in
     let turn : tie.In-loop Inv-loop μ-loop = search needs in
     let past : tie.Else1 Inv-loop μ-loop = search needs in
-    section-room (turn .before .loop .inv) (turn .loop-test .taken) (row-other (now (start .args .distances)) (start .args .n) (start .args .from) (turn .before .loop .to) (turn .loop-test .taken) (past .if1 .left)))
+    section-room (turn .before .loop .inv) (turn .loop-test .taken) (row-other (now (start .args .distances)) (start .args .n) (start .args .from) (turn .before .loop .to) (turn .loop-test .taken) (past .if1 .left)) .fits)
     (λ c.
     let start : tie.Start Inv-loop μ-loop = search needs in
     let turn : tie.In-loop Inv-loop μ-loop = search needs in
