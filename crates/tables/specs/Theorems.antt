@@ -25,7 +25,7 @@ use Rattle.tables.specs.Judging.{Room, routeAt, start, routesAt, prefixA
 use Rattle.tables.specs.ListsLaws.{map-at, as-table, each-below, latest-table, table-none, table-part, table-take}
 use Rattle.tables.specs.HeldLaws.{no-prefix, no-route, few, n-is, cell-is, held-is}
 use Rattle.tables.specs.PartsLaws.{and-zero, holding-parts}
-use Rattle.tables.specs.JudgeLaws.{off, start-next, start-up}
+use Rattle.tables.specs.JudgeLaws.{off, start-within}
 
 -- where no table is shorter than its limit, each has its room
 pub has-room : (t : Tables) → anyOf (short t) ≡ false → Room t
@@ -88,8 +88,7 @@ module _ {counts : Counts} {t : Tables} {s : Snapshot} (room : Room t) (valid : 
     held-fits =
         let parts = holding-parts room (record { snapshot = s; valid = valid; held = held }) in
         let count = held-count in
-        let next = start-next (t .routes) p in
-        let up = start-up (t .routes) (p + 1) (counts .prefixes) (omega arith) in
+        let within = start-within (t .routes) p (counts .prefixes) below in
         let sum = parts .prefixes .1 in
         let most = parts .range .routes in
         omega arith

@@ -1,72 +1,62 @@
+-- `put_prefix` meets its contract. Assumes nothing.
+use native.Mathlib.Omega.{arith}
+use mathlib.Core.Path.{refl}
+use mathlib.Core.List.{[], _∷_}
+use denote.Ref.{now}
 use borrow.Author.Needs.{needs}
+use Rattle.model.specs.Rows.{column}
+use Rattle.snapshot.specs.Records.{prefixForm, written}
+use Rattle.snapshot.specs.Format.{routesBytes}
+use Rattle.snapshot.specs.Tables.{Tables, columns}
+use Rattle.tables.specs.Judging.{prefixTables, routesAt}
+use Rattle.records.specs.PuttingLaws.{puts-append, space-first, space-then}
 use Rattle.writer.proofs.put_prefix.Statement.{statement}
 use Rattle.writer.proofs.put_prefix.Tie as tie
-use Rattle.writer.proofs.put_prefix.Reads as reads
-use Rattle.writer.proofs.put_prefix.Lts as lts
-use Rattle.records.proofs.put_prefix.Reads as put-prefix-reads
-use Rattle.writer.proofs.put_routes.Reads as put-routes-reads
 
--- src/lib.rt:134:17
-mul-count : tie.Need-mul-count
-mul-count c = search needs
+-- the lent tables
+abbrev lent : tie.Start → Tables
+lent s =
+    prefixTables (now (s .args .address)) (now (s .args .bits)) (now (s .args .routes))
+    (columns (now (s .args .router)) (now (s .args .asn)) (now (s .args .preference)) (now (s .args .path)) (now (s .args .origin))
+    (now (s .args .mark)) (now (s .args .med)) (now (s .args .nid)) (now (s .args .peer)))
 
--- src/lib.rt:134:17
-shared-slice-read-count : tie.Need-shared-slice-read-count
-shared-slice-read-count c = search needs
-
--- src/lib.rt:134:17
-cast-count : tie.Need-cast-count
-cast-count c = search needs
-
--- src/lib.rt:135:37
-mul-put-prefix : tie.Need-mul-put-prefix
-mul-put-prefix c = search needs
-
--- src/lib.rt:135:37
-shared-slice-read-put-prefix : tie.Need-shared-slice-read-put-prefix
-shared-slice-read-put-prefix c = search needs
-
--- src/lib.rt:135:49
-mul-put-prefix-2 : tie.Need-mul-put-prefix-2
-mul-put-prefix-2 c = search needs
-
--- src/lib.rt:135:49
-shared-slice-read-put-prefix-2 : tie.Need-shared-slice-read-put-prefix-2
-shared-slice-read-put-prefix-2 c = search needs
-
--- src/lib.rt:135:5
-put-prefix-requires : tie.Need-put-prefix-requires
-put-prefix-requires c κs = search needs
-
--- src/lib.rt:136:94
 add-put-routes : tie.Need-add-put-routes
-add-put-routes c = ?
+add-put-routes c =
+    let start : tie.Start = search needs in
+    let t = lent start in
+    let p = start .args .p in
+    omega (arith, space-first (written prefixForm (column (t .address) p ∷ column (t .bits) p ∷ [])) (routesBytes (routesAt (t .rows) (start .args .row) (column (t .routes) p))) (start .pre .3) .fits, start)
 
--- src/lib.rt:136:5
 put-routes-requires : tie.Need-put-routes-requires
-put-routes-requires c κs = ?
+put-routes-requires c κs =
+    let start : tie.Start = search needs in
+    let t = lent start in
+    let p = start .args .p in
+    let one : tie.After-put-prefix = search needs in
+    (start .pre .1, start .pre .2 .rows, space-then (written prefixForm (column (t .address) p ∷ column (t .bits) p ∷ [])) (routesBytes (routesAt (t .rows) (start .args .row) (column (t .routes) p))) (start .pre .3) (record { same = one .put-prefix .ensures; place = refl }))
 
--- src/lib.rt:112:1
-same-length : tie.Need-same-length
-same-length c = search needs
-
--- src/lib.rt:112:1
 returns : tie.Need-returns
-returns c = ?
+returns c =
+    let start : tie.Start = search needs in
+    let t = lent start in
+    let p = start .args .p in
+    let one : tie.After-put-prefix = search needs in
+    let two : tie.After-put-routes = search needs in
+    puts-append {xs = written prefixForm (column (t .address) p ∷ column (t .bits) p ∷ [])} (record { same = one .put-prefix .ensures; place = refl }) (two .put-routes .ensures)
 
 pub put-prefix-spec : {M : Type 1} → statement M
 put-prefix-spec =
     tie.close
     (tie.spec
-    mul-count
-    shared-slice-read-count
-    cast-count
-    mul-put-prefix
-    shared-slice-read-put-prefix
-    mul-put-prefix-2
-    shared-slice-read-put-prefix-2
-    put-prefix-requires
+    (λ c. search needs)
+    (λ c. search needs)
+    (λ c. search needs)
+    (λ c. search needs)
+    (λ c. search needs)
+    (λ c. search needs)
+    (λ c. search needs)
+    (λ c κs. search needs)
     add-put-routes
     put-routes-requires
-    same-length
+    (λ c. search needs)
     returns)
