@@ -26,6 +26,7 @@ use Rattle.tables.specs.Judging.{prefixAt, snapshotOf, cell, InRange, Parts, Ho
 use Rattle.tables.specs.PartsLaws.{parts-valid, parts-held, holding-parts}
 use Rattle.tables.specs.Theorems.{has-room}
 use Rattle.records.specs.Putting.{Space, Puts}
+use Rattle.records.specs.PuttingLaws.{puts-append}
 use Rattle.writer.specs.Writing.{networkBytes, pairCount, sizeOf, recordsOf, Said, wrote, refuses, Writes, room, tables, full, done}
 
 -- the pairs of at most 64 routers
@@ -74,6 +75,13 @@ module _ {counts : Counts} {t : Tables} (has : judging.Room t) (parts : Parts co
       regroup (written countForm (n ∷ [])) ids (distancesBytes (pairs n) (s .distances)) ps (written endForm (records s ∷ []))
       ∙ ap (λ (k : ℕ). (written countForm (k ∷ []) ++ (ids ++ distancesBytes (pairs k) (s .distances))) ++ (ps ++ written endForm (records s ∷ []))) n-is
       ∙ ap (λ (k : ℕ). networkBytes (t .ids) (t .distances) (counts .routers) ++ (ps ++ written endForm (k ∷ []))) records-are
+
+  -- they are put by these parts
+  pub puts-snapshot : {before a b c : List ℕ} {m k r : ℕ} → Puts (networkBytes (t .ids) (t .distances) (counts .routers)) before 0 a m → Puts (prefixesBytes (s .prefixes)) a m b k
+      → c ≡ sets b k (written endForm (r ∷ [])) → r ≡ recordsOf counts → Puts (encode s) before 0 c (k + 5)
+  puts-snapshot {before} {b} {c} {k} p q e f =
+      subst (λ (bs : List ℕ). Puts bs before 0 c (k + 5)) (sym encode-parts)
+      (puts-append p (puts-append q (record { same = e ∙ ap (λ (n : ℕ). sets b k (written endForm (n ∷ []))) f; place = refl })))
 
   -- their number
   pub encode-long : length (encode s) ≡ sizeOf counts

@@ -10,7 +10,6 @@ ghost use Rattle.snapshot.specs.Tables.{columns, tables};
 ghost use Rattle.tables.specs.Judging.{RoomRows, RoomPrefixes, Room, prefixTables, start, routesAt, prefixAt, snapshotOf, InRange, Parts};
 ghost use Rattle.records.specs.Putting.{Space, Puts};
 ghost use Rattle.writer.specs.Writing.{rowBytes, rowsBytes, networkBytes, prefixFrom, prefixBytes, pairCount, sizeOf, recordsOf, said, Writes};
-
 use refusal::Refusal;
 use snapshot::Counts;
 
@@ -47,7 +46,13 @@ fn put_row(n: usize, distances: &[u32], from: usize, out: &mut [u8], first: usiz
             to += 1;
             continue;
         }
-        records::put_distance(out, at, from as u32, to as u32, distances[from * snapshot::STRIDE + to]);
+        records::put_distance(
+            out,
+            at,
+            from as u32,
+            to as u32,
+            distances[from * snapshot::STRIDE + to],
+        );
         at += 7;
         to += 1;
     }
@@ -101,7 +106,22 @@ fn put_routes(
     let mut at = first;
     let mut k = 0;
     while k < count {
-        records::put_route(out, at, tables::route_at(router, asn, preference, path, origin, mark, med, nid, peer, row + k));
+        records::put_route(
+            out,
+            at,
+            tables::route_at(
+                router,
+                asn,
+                preference,
+                path,
+                origin,
+                mark,
+                med,
+                nid,
+                peer,
+                row + k,
+            ),
+        );
         at += 24;
         k += 1;
     }
@@ -133,7 +153,21 @@ fn put_prefix(
 {
     let count = routes[p] as usize;
     records::put_prefix(out, first, address[p], bits[p]);
-    put_routes(router, asn, preference, path, origin, mark, med, nid, peer, row, count, out, first + 6)
+    put_routes(
+        router,
+        asn,
+        preference,
+        path,
+        origin,
+        mark,
+        med,
+        nid,
+        peer,
+        row,
+        count,
+        out,
+        first + 6,
+    )
 }
 
 // The records of so many prefixes, each with its routes.
@@ -164,7 +198,24 @@ fn put_prefixes(
     while p < n {
         let next = p + 1;
         let end = row + routes[p] as usize;
-        at = put_prefix(address, bits, routes, router, asn, preference, path, origin, mark, med, nid, peer, p, row, out, at);
+        at = put_prefix(
+            address,
+            bits,
+            routes,
+            router,
+            asn,
+            preference,
+            path,
+            origin,
+            mark,
+            med,
+            nid,
+            peer,
+            p,
+            row,
+            out,
+            at,
+        );
         row = end;
         p = next;
     }
@@ -185,7 +236,11 @@ fn size(counts: Counts) -> usize
     ensures { λ r. ⌜ r ≡ sizeOf counts ⌝ }
 {
     let pairs = pair_count(counts.routers);
-    7 + 6 * (counts.routers as usize) + 7 * (pairs as usize) + 6 * (counts.prefixes as usize) + 24 * (counts.routes as usize)
+    7
+        + 6 * (counts.routers as usize)
+        + 7 * (pairs as usize)
+        + 6 * (counts.prefixes as usize)
+        + 24 * (counts.routes as usize)
 }
 
 // Its records before the end record.
@@ -221,7 +276,23 @@ fn put_snapshot(
 {
     let records = record_count(counts);
     let mut at = put_network(counts.routers as usize, ids, distances, out);
-    at = put_prefixes(counts.prefixes as usize, address, bits, routes, router, asn, preference, path, origin, mark, med, nid, peer, out, at);
+    at = put_prefixes(
+        counts.prefixes as usize,
+        address,
+        bits,
+        routes,
+        router,
+        asn,
+        preference,
+        path,
+        origin,
+        mark,
+        med,
+        nid,
+        peer,
+        out,
+        at,
+    );
     records::put_end(out, at, records);
     at + 5
 }
@@ -248,14 +319,62 @@ pub fn write_snapshot(
 ) -> Write
     ensures { λ r. ⌜ Writes counts (tables (was ids) (was distances) (was address) (was bits) (was routes) (columns (was router) (was asn) (was preference) (was path) (was origin) (was mark) (was med) (was nid) (was peer))) (was out) (said r) (is out) ⌝ }
 {
-    if tables::lacks_room(ids, distances, address, bits, routes, router, asn, preference, path, origin, mark, med, nid, peer) {
+    if tables::lacks_room(
+        ids,
+        distances,
+        address,
+        bits,
+        routes,
+        router,
+        asn,
+        preference,
+        path,
+        origin,
+        mark,
+        med,
+        nid,
+        peer,
+    ) {
         return Write::Refused(Refusal::Room, 0);
     }
-    if !tables::judge(counts, ids, distances, address, bits, routes, router, asn, preference, path, origin, mark, med, nid, peer) {
+    if !tables::judge(
+        counts,
+        ids,
+        distances,
+        address,
+        bits,
+        routes,
+        router,
+        asn,
+        preference,
+        path,
+        origin,
+        mark,
+        med,
+        nid,
+        peer,
+    ) {
         return Write::Refused(Refusal::Table, 0);
     }
     if out.len() < size(counts) {
         return Write::Refused(Refusal::Room, 0);
     }
-    Write::Written(put_snapshot(counts, ids, distances, address, bits, routes, router, asn, preference, path, origin, mark, med, nid, peer, out))
+    Write::Written(put_snapshot(
+        counts,
+        ids,
+        distances,
+        address,
+        bits,
+        routes,
+        router,
+        asn,
+        preference,
+        path,
+        origin,
+        mark,
+        med,
+        nid,
+        peer,
+        out,
+    ))
 }

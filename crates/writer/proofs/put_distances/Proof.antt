@@ -22,9 +22,12 @@ put-distances-spec =
     (λ c. let start : tie.Start Inv-loop μ-loop = search needs in section (rows-first (now (start .args .distances)) (start .args .n)) (start .pre .2))
     (λ c κs.
     let start : tie.Start Inv-loop μ-loop = search needs in
-    let turn : tie.In-loop Inv-loop μ-loop = search needs in
-    (start .pre .0, turn .loop-test .taken, start .pre .1,
-      section-room (turn .before .loop .inv) (turn .loop-test .taken) (rows-next (now (start .args .distances)) (start .args .n) (turn .before .loop .from) (turn .loop-test .taken))))
+    let turn : tie.In-loop Inv-loop μ-loop = search needs in (
+      start .pre .0,
+      turn .loop-test .taken,
+      start .pre .1,
+      section-room (turn .before .loop .inv) (turn .loop-test .taken) (rows-next (now (start .args .distances)) (start .args .n) (turn .before .loop .from) (turn .loop-test .taken)),
+    ))
     (λ c. search needs)
     (λ c. search needs)
     (λ c.

@@ -15,18 +15,22 @@ put-ids-requires : tie.Need-put-ids-requires
 put-ids-requires c κs =
     let start : tie.Start = search needs in
     let a = start .args in
-    let one : tie.After-put-count = search needs in
-    (start .pre .0, start .pre .1,
-      space-first (routersBytes 0 (table (a .n) (column (now (a .ids))))) (rowsBytes (now (a .distances)) (a .n)) (space-then (written countForm (a .n ∷ [])) ((routersBytes 0 (table (a .n) (column (now (a .ids))))) ++ (rowsBytes (now (a .distances)) (a .n))) (start .pre .3) (record { same = one .put-count .ensures; place = refl })))
+    let one : tie.After-put-count = search needs in (
+      start .pre .0,
+      start .pre .1,
+      space-first (routersBytes 0 (table (a .n) (column (now (a .ids))))) (rowsBytes (now (a .distances)) (a .n)) (space-then (written countForm (a .n ∷ [])) ((routersBytes 0 (table (a .n) (column (now (a .ids))))) ++ (rowsBytes (now (a .distances)) (a .n))) (start .pre .3) (record { same = one .put-count .ensures; place = refl })),
+    )
 
 put-distances-requires : tie.Need-put-distances-requires
 put-distances-requires c κs =
     let start : tie.Start = search needs in
     let a = start .args in
     let one : tie.After-put-count = search needs in
-    let two : tie.After-put-ids = search needs in
-    (start .pre .0, start .pre .2,
-      space-then (routersBytes 0 (table (a .n) (column (now (a .ids))))) (rowsBytes (now (a .distances)) (a .n)) (space-then (written countForm (a .n ∷ [])) ((routersBytes 0 (table (a .n) (column (now (a .ids))))) ++ (rowsBytes (now (a .distances)) (a .n))) (start .pre .3) (record { same = one .put-count .ensures; place = refl })) (two .put-ids .ensures))
+    let two : tie.After-put-ids = search needs in (
+      start .pre .0,
+      start .pre .2,
+      space-then (routersBytes 0 (table (a .n) (column (now (a .ids))))) (rowsBytes (now (a .distances)) (a .n)) (space-then (written countForm (a .n ∷ [])) ((routersBytes 0 (table (a .n) (column (now (a .ids))))) ++ (rowsBytes (now (a .distances)) (a .n))) (start .pre .3) (record { same = one .put-count .ensures; place = refl })) (two .put-ids .ensures),
+    )
 
 returns : tie.Need-returns
 returns c =

@@ -47,16 +47,20 @@ put-prefixes-spec =
     (λ c κs.
     let start : tie.Start Inv-loop μ-loop = search needs in
     let turn : tie.In-loop Inv-loop μ-loop = search needs in
-    let at = turn .before .loop in
-    (omega (arith, start .pre .0, turn .loop-test .taken), omega (arith, start-within (now (start .args .routes)) (at .p) (start .args .n) (turn .loop-test .taken), start .pre .1, at .inv .1), start .pre .2,
-      section-room (at .inv .0) (turn .loop-test .taken) (prefixes-next (lent start) (start .args .n) (at .p) (at .row) (turn .loop-test .taken) (at .inv .1))))
+    let at = turn .before .loop in (
+      omega (arith, start .pre .0, turn .loop-test .taken),
+      omega (arith, start-within (now (start .args .routes)) (at .p) (start .args .n) (turn .loop-test .taken), start .pre .1, at .inv .1),
+      start .pre .2,
+      section-room (at .inv .0) (turn .loop-test .taken) (prefixes-next (lent start) (start .args .n) (at .p) (at .row) (turn .loop-test .taken) (at .inv .1)),
+    ))
     (λ c. let turn : tie.In-loop Inv-loop μ-loop = search needs in omega (arith, turn .loop-test .taken))
     (λ c.
     let start : tie.Start Inv-loop μ-loop = search needs in
     let turn : tie.In-loop Inv-loop μ-loop = search needs in
     let put : tie.After-put-prefix Inv-loop μ-loop = search needs in
-    let at = turn .before .loop in
-    (section-next (at .inv .0) (turn .loop-test .taken) (prefixes-next (lent start) (start .args .n) (at .p) (at .row) (turn .loop-test .taken) (at .inv .1)) (put .put-prefix .ensures .same) (put .put-prefix .ensures .place),
-      omega (arith, start-next (now (start .args .routes)) (at .p), at .inv .1)))
+    let at = turn .before .loop in (
+      section-next (at .inv .0) (turn .loop-test .taken) (prefixes-next (lent start) (start .args .n) (at .p) (at .row) (turn .loop-test .taken) (at .inv .1)) (put .put-prefix .ensures .same) (put .put-prefix .ensures .place),
+      omega (arith, start-next (now (start .args .routes)) (at .p), at .inv .1),
+    ))
     (λ c. section-long (c .before .loop .inv .0))
     (λ c. let start : tie.Start Inv-loop μ-loop = search needs in section-end (c .before .loop .inv .0) (c .loop-test .left) (prefixes-last (lent start) (start .args .n))))

@@ -1,59 +1,84 @@
+-- `write_snapshot` meets its contract. Assumes nothing.
+use native.Mathlib.Omega.{arith}
+use mathlib.Core.Path.{sym, _∙_}
+use denote.Ref.{now}
 use borrow.Author.Needs.{needs}
+use borrow.Author.Tests.{not-true, not-false}
+use Rattle.snapshot.specs.Tables.{Tables, tables, columns}
+use Rattle.tables.specs.PartsLaws.{holding-parts}
+use Rattle.tables.specs.Theorems.{has-room}
+use Rattle.writer.specs.WritingLaws.{writes-room, writes-table, writes-full, writes-space, writes-done}
 use Rattle.writer.proofs.write_snapshot.Statement.{statement}
 use Rattle.writer.proofs.write_snapshot.Tie as tie
-use Rattle.writer.proofs.write_snapshot.Reads as reads
-use Rattle.writer.proofs.write_snapshot.Lts as lts
-use Rattle.tables.proofs.judge.Reads as judge-reads
-use Rattle.tables.proofs.lacks_room.Reads as lacks-room-reads
-use Rattle.writer.proofs.put_snapshot.Reads as put-snapshot-reads
-use Rattle.writer.proofs.size.Reads as size-reads
 
--- src/lib.rt:251:8
-lacks-room-requires : tie.Need-lacks-room-requires
-lacks-room-requires c κs = search needs
+-- the lent tables
+abbrev lent : tie.Start → Tables
+lent s =
+    tables (now (s .args .ids)) (now (s .args .distances)) (now (s .args .address)) (now (s .args .bits)) (now (s .args .routes))
+    (columns (now (s .args .router)) (now (s .args .asn)) (now (s .args .preference)) (now (s .args .path)) (now (s .args .origin))
+    (now (s .args .mark)) (now (s .args .med)) (now (s .args .nid)) (now (s .args .peer)))
 
--- src/lib.rt:252:9
+-- the entry, which lies far back
+abbrev start-of : tie.Else1 → tie.Start
+start-of c = search needs
+
 returns : tie.Need-returns
-returns c = ?
+returns c =
+    let start : tie.Start = search needs in
+    writes-room (start .args .counts) (lent start) (now (start .args .out)) (sym (c .before .lacks-room .ensures) ∙ c .if1 .taken)
 
--- src/lib.rt:254:9
 judge-requires : tie.Need-judge-requires
-judge-requires c κs = ?
+judge-requires c κs =
+    let start : tie.Start = search needs in
+    has-room (lent start) (sym (c .before .lacks-room .ensures) ∙ c .if1 .left)
 
--- src/lib.rt:255:9
 returns-2 : tie.Need-returns-2
-returns-2 c = ?
+returns-2 c =
+    let start : tie.Start = search needs in
+    let past : tie.Else1 = search needs in
+    writes-table (start .args .counts) (lent start) (now (start .args .out)) (sym (past .before .lacks-room .ensures) ∙ past .if1 .left) (c .before .judge .ensures .no (not-true _ (c .if2 .taken)))
 
--- src/lib.rt:257:20
 size-requires : tie.Need-size-requires
-size-requires c κs = ?
+size-requires c κs =
+    let start : tie.Start = search needs in
+    let past : tie.Else1 = search needs in
+    holding-parts (has-room (lent start) (sym (past .before .lacks-room .ensures) ∙ past .if1 .left)) (c .before .judge .ensures .yes (not-false _ (c .if2 .left))) .range
 
--- src/lib.rt:258:9
 returns-3 : tie.Need-returns-3
-returns-3 c = ?
+returns-3 c =
+    let start : tie.Start = search needs in
+    let past : tie.Else1 = search needs in
+    let judged : tie.Else2 = search needs in
+    let sized : tie.After-size = search needs in
+    writes-full (start .args .counts) (lent start) (now (start .args .out)) (sym (past .before .lacks-room .ensures) ∙ past .if1 .left) (holding-parts (has-room (lent start) (sym (past .before .lacks-room .ensures) ∙ past .if1 .left)) (judged .before .judge .ensures .yes (not-false _ (judged .if2 .left)))) (omega (arith, c .if3 .taken, sized .size .ensures))
 
--- src/lib.rt:260:20
 put-snapshot-requires : tie.Need-put-snapshot-requires
-put-snapshot-requires c κs = ?
+put-snapshot-requires c κs =
+    let sized : tie.Else3 = search needs in
+    let judged : tie.Else2 = sized .before .before in
+    let past : tie.Else1 = judged .before .before in
+    let start = start-of past in
+    (has-room (lent start) (sym (past .before .lacks-room .ensures) ∙ past .if1 .left), (holding-parts (has-room (lent start) (sym (past .before .lacks-room .ensures) ∙ past .if1 .left)) (judged .before .judge .ensures .yes (not-false _ (judged .if2 .left)))), writes-space (start .args .counts) (lent start) (now (start .args .out)) (sym (past .before .lacks-room .ensures) ∙ past .if1 .left) (holding-parts (has-room (lent start) (sym (past .before .lacks-room .ensures) ∙ past .if1 .left)) (judged .before .judge .ensures .yes (not-false _ (judged .if2 .left)))) (omega (arith, sized .if3 .left, sized .before .size .ensures)))
 
--- src/lib.rt:231:1
-same-length : tie.Need-same-length
-same-length c = search needs
-
--- src/lib.rt:231:1
 returns-4 : tie.Need-returns-4
-returns-4 c = ?
+returns-4 c =
+    let put : tie.After-put-snapshot = search needs in
+    let sized : tie.Else3 = put .before .before in
+    let judged : tie.Else2 = sized .before .before in
+    let past : tie.Else1 = judged .before .before in
+    let start = start-of past in
+    writes-done (start .args .counts) (lent start) (now (start .args .out)) (sym (past .before .lacks-room .ensures) ∙ past .if1 .left) (holding-parts (has-room (lent start) (sym (past .before .lacks-room .ensures) ∙ past .if1 .left)) (judged .before .judge .ensures .yes (not-false _ (judged .if2 .left)))) (omega (arith, sized .if3 .left, sized .before .size .ensures)) (put .put-snapshot .ensures)
 
 pub write-snapshot-spec : {M : Type 1} → statement M
 write-snapshot-spec =
     tie.close
     (tie.spec
-    lacks-room-requires
+    (λ c κs. search needs)
     returns
     judge-requires
     returns-2
     size-requires
     returns-3
     put-snapshot-requires
-    same-length
+    (λ c. search needs)
     returns-4)
