@@ -7,7 +7,7 @@ use mathlib.Core.Bool.{Bool, true, false, _||_, _&&_, not}
 use mathlib.Core.List.{List, [], _∷_, map, map-map}
 use lib.ListN.{length, getD, take, drop, length-map}
 use lib.Dec.{T, eqb, ltb}
-use borrow.Author.Tests.{leb-false, ltb-false, eq-eqb, eqb-false}
+use borrow.Author.Tests.{leb-false, ltb-false, le-ltb, eq-eqb, eqb-false}
 use mir.Facts.{or-yes, and-yes, ltb-yes, eqb-yes}
 use Rattle.model.specs.Rows.{span, table, column, some}
 use Rattle.model.specs.Decision.{Route, Mesh}
@@ -16,8 +16,8 @@ use Rattle.model.specs.SoundLaws.{Rising, rising-sound}
 use Rattle.model.specs.LoopLaws.{table-length, table-at}
 use Rattle.snapshot.specs.declared.Counts.{Counts}
 use Rattle.snapshot.specs.Limits.{mostRouters, mostInPrefix, mostRoutes}
-use Rattle.snapshot.specs.Ranges.{anyOf, routeTests, rises, risesRoute}
-use Rattle.snapshot.specs.RangesLaws.{none-at, none-any}
+use Rattle.snapshot.specs.Ranges.{anyOf, none, routeTests, rises, risesRoute}
+use Rattle.snapshot.specs.RangesLaws.{none-at, none-any, none-cons}
 use Rattle.snapshot.specs.Format.{Prefix, Snapshot, Each, GoodId, GoodRoute, GoodPrefix, latest, distance, Valid}
 use Rattle.snapshot.specs.Tables.{Tables, short, Held, routesOf, mesh}
 use Rattle.snapshot.specs.ChecksLaws.{count-range}
@@ -51,6 +51,48 @@ has-room t e =
         };
       };
     }
+
+abbrev AllFalse : List Bool → Type 0
+AllFalse [] = Unit {0}
+AllFalse (b ∷ bs) = (b ≡ false) × AllFalse bs
+
+all-false : (bs : List Bool) → AllFalse bs → T (none bs)
+all-false [] h = tt
+all-false (b ∷ bs) h = none-cons bs (h .0) (all-false bs (h .1))
+
+-- and the other way round
+pub room-enough : (t : Tables) → Room t → T (none (short t))
+room-enough t room =
+    let p = room .prefixes in
+    let r = p .rows in
+    all-false (short t) (
+      le-ltb _ _ (room .ids),
+      (
+        le-ltb _ _ (room .distances),
+        (
+          le-ltb _ _ (p .address),
+          (
+            le-ltb _ _ (p .bits),
+            (
+              le-ltb _ _ (p .routes),
+              (
+                le-ltb _ _ (r .router),
+                (
+                  le-ltb _ _ (r .asn),
+                  (
+                    le-ltb _ _ (r .preference),
+                    (
+                      le-ltb _ _ (r .path),
+                      (le-ltb _ _ (r .origin), (le-ltb _ _ (r .mark), (le-ltb _ _ (r .med), (le-ltb _ _ (r .nid), (le-ltb _ _ (r .peer), tt))))),
+                    ),
+                  ),
+                ),
+              ),
+            ),
+          ),
+        ),
+      ),
+    )
 
 -- two valid snapshots that are held by the same counts and tables are one
 pub held-one : {counts : Counts} {t : Tables} {s u : Snapshot} → Room t → Valid s → Held counts t s → Valid u → Held counts t u → s ≡ u
