@@ -241,13 +241,6 @@ pub fn kind_at(input: &[u8], at: usize) -> u8
     0
 }
 
-// The cursor at the first record.
-pub fn start() -> Cursor
-    ensures { λ r. ⌜ r ≡ begin ⌝ }
-{
-    Cursor { at: 0, records: 0 }
-}
-
 impl Cursor {
     // The checks that every record has before its values: CUT for the kind byte, KIND, PLACE, FULL, CUT for the body.
     fn opening(self, input: &[u8], due: u8, astray: bool, full: bool) -> Finding
