@@ -8,7 +8,7 @@ use lib.Dec.{leb, eqb}
 use Rattle.wire.specs.Numbers.{numberAt}
 use Rattle.model.specs.Rows.{table}
 use Rattle.model.specs.Decision.{Route}
-use Rattle.snapshot.specs.Limits.{mostRouters, stride, mostRoutes}
+use Rattle.snapshot.specs.Limits.{mostRouters, stride, roomDistances, mostPrefixes, mostRoutes}
 use Rattle.snapshot.specs.Records.{countForm, routerForm, distanceForm, prefixForm, routeForm, size, valuesAt}
 use Rattle.snapshot.specs.Format.{Prefix, pairsBefore}
 use Rattle.snapshot.specs.Reading.{routeOf}
@@ -32,6 +32,7 @@ behindDistances n = 6 * n + 2 + 7 * (n * (n - 1))
 
 -- the input has the routers and distances of n routers
 pub record Spans (bs : List ℕ) (n : ℕ) : Type 0 where
+  pub some : 1 ≤ n
   pub few : n ≤ mostRouters
   pub long : behindDistances n ≤ length bs
 
@@ -105,3 +106,9 @@ filledFrom bs n m t =
       routes = ps .routes;
       rows = ps .rows;
     }
+
+-- every table has room for its limit
+pub record WideTables (t : Tables) : Type 0 where
+  pub ids : mostRouters ≤ length (t .ids)
+  pub distances : roomDistances ≤ length (t .distances)
+  pub rest : WideLists mostPrefixes (lists (t .address) (t .bits) (t .routes) (t .rows))

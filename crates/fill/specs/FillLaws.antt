@@ -232,7 +232,8 @@ module _ (s : Snapshot) (v : Valid s) where
   spans =
       let size = encode-size s (v .square) in
       let square : length (s .distances) ≡ length (s .ids) * (length (s .ids) - 1) = v .square in
-      record { few = count-range (length (s .ids)) (v .count) .1; long = omega arith }
+      let range = count-range (length (s .ids)) (v .count) in
+      record { some = range .0; few = range .1; long = omega arith }
 
   -- filling from the bytes of a snapshot fills it in
   pub fills : (t : Tables) → filledFrom (encode s) (length (s .ids)) (length (s .prefixes)) t ≡ filled s t
@@ -243,7 +244,7 @@ module _ (s : Snapshot) (v : Valid s) where
 -- ---- the place of a distance
 
 module _ {bs : List ℕ} {n : ℕ} (s : Spans bs n) where
-  square-small : n * (n - 1) ≤ mostRouters * (mostRouters - 1)
+  pub square-small : n * (n - 1) ≤ mostRouters * (mostRouters - 1)
   square-small = let few : n ≤ mostRouters = s .few in mul-le-mul few (let l : n - 1 ≤ mostRouters - 1 = omega arith in l)
 
   -- it lies within the input, and no number on the way to it is large

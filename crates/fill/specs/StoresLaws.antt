@@ -20,8 +20,8 @@ use Rattle.snapshot.specs.Records.{prefixForm, routeForm, valuesAt}
 use Rattle.snapshot.specs.Format.{Prefix, routesIn}
 use Rattle.snapshot.specs.ChecksLaws.{length-snoc, routesIn-append}
 use Rattle.snapshot.specs.Reading.{routeOf}
-use Rattle.snapshot.specs.Tables.{Columns, used, putRoutes, allRoutes}
-use Rattle.fill.specs.Fill.{idsIn, distanceIn, entryIn, isRoute, routesFrom, prefixWith, prefixesFrom, Lists, lists, putPrefixes, Wide, WideLists}
+use Rattle.snapshot.specs.Tables.{Columns, Tables, tables, used, putRoutes, allRoutes}
+use Rattle.fill.specs.Fill.{idsIn, distanceIn, entryIn, behindDistances, filledFrom, isRoute, routesFrom, prefixWith, prefixesFrom, Lists, lists, putPrefixes, Wide, WideLists}
 
 -- ---- lists that are stored from a place on
 
@@ -366,3 +366,13 @@ module _ {bs : List ℕ} {m at₀ : ℕ} {t₀ : Lists} where
           inside = omega (arith, room .0);
           few = omega (arith, room .1);
         }
+
+-- ---- the whole
+
+pub tables-filled : (bs : List ℕ) (n m : ℕ) (t : Tables) {ids ds a b c : List ℕ} {rows : Columns}
+    → ids ≡ sets (t .ids) 0 (idsIn bs n) → ds ≡ table (length (t .distances)) (entryIn bs n (t .distances))
+    → lists a b c rows ≡ putPrefixes (lists (t .address) (t .bits) (t .routes) (t .rows)) (prefixesFrom m bs (behindDistances n) 0)
+    → tables ids ds a b c rows ≡ filledFrom bs n m t
+tables-filled bs n m t {a = a} {b = b} {c = c} {rows = rows} e f g =
+    ap₂ (λ (x y : List ℕ). tables x y a b c rows) e f
+    ∙ ap (λ (l : Lists). tables (sets (t .ids) 0 (idsIn bs n)) (table (length (t .distances)) (entryIn bs n (t .distances))) (l .address) (l .bits) (l .routes) (l .rows)) g

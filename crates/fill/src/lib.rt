@@ -10,20 +10,21 @@ ghost use Rattle.model.specs.Rows.{table};
 ghost use Rattle.model.specs.Lent.{was, is};
 ghost use Rattle.snapshot.specs.Limits.{mostRouters, roomDistances, mostPrefixes, mostRoutes};
 ghost use Rattle.snapshot.specs.Plain.{routeIs};
-ghost use Rattle.snapshot.specs.Tables.{columns, putRoutes};
+ghost use Rattle.snapshot.specs.Tables.{columns, tables, putRoutes};
 ghost use Rattle.fill.specs.Fill.{
   idsIn,
   distanceIn,
   entryIn,
-  behindDistances,
   Spans,
   isRoute,
   routesFrom,
   prefixesFrom,
   lists,
   putPrefixes,
+  filledFrom,
   Wide,
   WideLists,
+  WideTables,
 };
 use cursor::Network;
 use snapshot::Route;
@@ -238,4 +239,52 @@ fn fill_prefixes(
         row = end;
         p = next;
     }
+}
+
+// Puts a snapshot of n routers and so many prefixes into the tables.
+pub fn fill_tables(
+    input: &[u8],
+    n: usize,
+    prefixes: usize,
+    ids: &mut [u32],
+    distances: &mut [u32],
+    address: &mut [u32],
+    bits: &mut [u32],
+    routes: &mut [u32],
+    router: &mut [u32],
+    asn: &mut [u32],
+    preference: &mut [u32],
+    path: &mut [u32],
+    origin: &mut [u32],
+    mark: &mut [u32],
+    med: &mut [u32],
+    nid: &mut [u32],
+    peer: &mut [u32],
+)
+    requires { ⌜ Spans (now input) n × (prefixes ≤ mostPrefixes) × WideTables (tables (now ids) (now distances) (now address) (now bits) (now routes)
+        (columns (now router) (now asn) (now preference) (now path) (now origin) (now mark) (now med) (now nid) (now peer))) ⌝ }
+    ensures { λ _. ⌜ tables (is ids) (is distances) (is address) (is bits) (is routes) (columns (is router) (is asn) (is preference) (is path) (is origin) (is mark) (is med) (is nid) (is peer))
+        ≡ filledFrom (was input) n prefixes (tables (was ids) (was distances) (was address) (was bits) (was routes)
+        (columns (was router) (was asn) (was preference) (was path) (was origin) (was mark) (was med) (was nid) (was peer))) ⌝ }
+{
+    let at = 6 * n + 2 + 7 * (n * (n - 1));
+    fill_ids(input, n, ids);
+    fill_distances(input, n, distances);
+    fill_prefixes(
+        input,
+        at,
+        prefixes,
+        address,
+        bits,
+        routes,
+        router,
+        asn,
+        preference,
+        path,
+        origin,
+        mark,
+        med,
+        nid,
+        peer,
+    );
 }
