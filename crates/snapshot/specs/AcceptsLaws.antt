@@ -14,7 +14,7 @@ use Rattle.snapshot.specs.Ranges.{none, countTests, idTests, distanceTes
 use Rattle.snapshot.specs.RangesLaws.{none-split}
 use Rattle.snapshot.specs.Records.{Form, countForm, routerForm, distanceForm, prefixForm, routeForm, endForm, written, kind, values, size}
 use Rattle.snapshot.specs.RecordsLaws.{split-written, fits-values}
-use Rattle.snapshot.specs.Format.{Prefix, Snapshot, Pair, pairs, Holds, Each, GoodId, GoodDistance, GoodRoute, GoodPrefix, Valid, routesIn, routersBytes, distancesBytes, prefixesBytes, routeFields, encodeOpen, encode}
+use Rattle.snapshot.specs.Format.{Prefix, Snapshot, Pair, pairs, Holds, Each, GoodId, GoodDistance, GoodRoute, GoodPrefix, Valid, routesIn, routersBytes, distancesBytes, prefixesBytes, routeFields, encodeOpen, encode, records}
 use Rattle.snapshot.specs.Reading.{accepted, openRoutes, addRoute, withPrefixes, withPrefix, withRoute, prefixOf, routeOf, prefixExtra, prefixValues, prefixRecord, routeExtra, routeValues, routeRecord, endValues, endRecord, tail, item, itemsWithin, items, distanceValues, distanceRecord, distances, routerValues, routerRecord, routers, countValues, countRecord, reading}
 use Rattle.snapshot.specs.ChecksLaws.{Passed, passed, unless-accepted, either-cases, refused-not-accepted, accepted-injective, each-snoc, length-snoc, routers-snoc, distances-snoc, prefixes-append, prefixes-add, length-add, routesIn-append, routesIn-add, each-add, open-more, some-prefix}
 use Rattle.snapshot.specs.PairsLaws.{pairs-length}
@@ -91,12 +91,12 @@ module _ (W : List ℕ) (s : Snapshot) (bs : List ℕ) (c : SoFar W s bs) where
         };
       }
 
-  at-end : (t : Snapshot) (at : ℕ) → Holds (endRecord s bs) → tail s at (drop 5 bs) ≡ accepted t → Sound W t
+  at-end : (t : Snapshot) (at : ℕ) → Holds (endRecord (records s) bs) → tail s at (drop 5 bs) ≡ accepted t → Sound W t
   unfolding endRecord
   at-end t at e r = go (drop 5 bs) refl r
     where
-      h : Passed endForm [] (endValues s) bs
-      h = passed endForm [] (endValues s) bs e
+      h : Passed endForm [] (endValues (records s)) bs
+      h = passed endForm [] (endValues (records s)) bs e
 
       go : (rest : List ℕ) → drop 5 bs ≡ rest → tail s at rest ≡ accepted t → Sound W t
       go [] d r =
@@ -122,7 +122,7 @@ items-sound (suc fuel) W t s at bs c e =
     let (b, go) = unless-accepted (routeRecord s bs) at _ t go in
     items-sound fuel W t (withRoute s bs) (at + 24) (drop 24 bs) (route-read W s bs c b) go)
     (λ _ go.
-    let (b, go) = unless-accepted (endRecord s bs) at _ t go in
+    let (b, go) = unless-accepted (endRecord (records s) bs) at _ t go in
     at-end W s bs c t (at + 5) b go))
 
 -- ---- the distances
@@ -162,8 +162,8 @@ module _ (W : List ℕ) (t : Snapshot) (ids : List ℕ) (some : T (none (countTe
         };
       }) e
   distances-sound (p ∷ due) ds at bs bytes w l d g e =
-      let (z, go) = unless-accepted (distanceRecord ids p bs) at _ t e in
-      let h = passed distanceForm [] (distanceValues ids p) bs z in
+      let (z, go) = unless-accepted (distanceRecord (length ids) p bs) at _ t e in
+      let h = passed distanceForm [] (distanceValues (length ids) p) bs z in
       let x : ℕ = getD (values distanceForm bs) 2 0 in
       let ps : List Pair = pairs (length ids) in
       let split : bs ≡ written distanceForm (p .from ∷ p .to ∷ x ∷ []) ++ drop 7 bs =

@@ -16,9 +16,9 @@ use Rattle.model.specs.Decision.{Route}
 use Rattle.snapshot.specs.Limits.{mostRouters, mostPrefixes, mostRoutes}
 use Rattle.snapshot.specs.Records.{Form, countForm, routerForm, distanceForm, prefixForm, routeForm, endForm, size, known, kind, values}
 use Rattle.snapshot.specs.RecordsLaws.{fields-take}
-use Rattle.snapshot.specs.Format.{Prefix, Snapshot, Pair, pairs, Check, _else_, judged, Holds, routesIn}
+use Rattle.snapshot.specs.Format.{Prefix, Snapshot, Pair, pairs, Check, _else_, judged, Holds, routesIn, records}
 use Rattle.snapshot.specs.Reading.{Answer, refused, unless, either, isNil, prefixRecord, routeRecord, endRecord, distanceRecord, routerRecord, countRecord, recordChecks, prefixExtra, prefixValues, routeExtra, routeValues, endValues, tail, item, items, prefixOf, routeOf, withPrefixes, withPrefix, withRoute, addRoute, distanceValues, distances, routerValues, routers, countValues, reading}
-use Rattle.snapshot.specs.ChecksLaws.{judged-append, judged-same, Passed, passed, count-range, length-snoc, routesIn-append, routesIn-add, length-add, some-prefix}
+use Rattle.snapshot.specs.ChecksLaws.{judged-same, judged-front, Passed, passed, count-range, length-snoc, routesIn-append, routesIn-add, length-add, some-prefix}
 use Rattle.snapshot.specs.SectionsLaws.{drop-shorter, items-step}
 use Rattle.snapshot.specs.PairsLaws.{pairs-length}
 
@@ -39,11 +39,6 @@ enough-take k m bs h = go (decLe k (length bs))
     go : Dec (k ≤ length bs) → leb k (length (take m bs)) ≡ leb k (length bs)
     go (yes e) = le-leb k (length (take m bs)) (omega (arith, l)) ∙ sym (le-leb k (length bs) e)
     go (no e) = lt-leb k (length (take m bs)) (omega (arith, l)) ∙ sym (lt-leb k (length bs) (omega arith))
-
-same-front : (front xs ys : List Check) (stop : Refusal → Answer) (f g : Unit {0} → Answer)
-    → (Holds front → judged xs stop f ≡ judged ys stop g) → judged (front ++ xs) stop f ≡ judged (front ++ ys) stop g
-same-front front xs ys stop f g e =
-    judged-append front xs stop f ∙ judged-same front stop _ _ e ∙ sym (judged-append front ys stop g)
 
 kind-take : (m : ℕ) (bs : List ℕ) → 1 ≤ m → kind bs ≡ kind (take m bs)
 kind-take zero bs h = absurd (not-suc-le-zero h)
@@ -75,7 +70,7 @@ module _ (m : ℕ) (bs : List ℕ) where
       ap₂ (λ (n : Bool) (k : ℕ). (not n else Cut) ∷ (known k else Kind) ∷ (eqb k (f .kind) else Place) ∷ extra) (nil-take m bs one) (kind-take m bs one) in
       judged-same (recordChecks f extra checks bs) (λ r. refused r at) go go′ (λ p. e (passed f extra checks bs p))
       ∙ ap (λ (c : List Check). unless (c ++ body bs) at go′) same
-      ∙ same-front (front (take m bs)) (body bs) (body (take m bs)) (λ r. refused r at) go′ go′
+      ∙ judged-front (front (take m bs)) (body bs) (body (take m bs)) (λ r. refused r at) go′ go′
       (λ hf. ap₂ (λ (b : Bool) (v : List ℕ). unless ((b else Cut) ∷ checks v) at go′)
       (sym (enough-take (size f) m bs (h (hf .1 .1 .1)))) (sym (values-take f (h (hf .1 .1 .1)))))
 
@@ -120,7 +115,7 @@ items-take (suc count) s at (b ∷ bs) m l need =
     items-take count (withRoute s all) (at + 24) (drop 23 bs) (m - 24) (drop-shorter 23 bs count l) (omega arith)
     ∙ sym (ap₂ (λ (v l : List ℕ). items (withPrefixes s (addRoute ps (routeOf v))) (at + 24) l)
     (values-take m all routeForm (omega arith)) (drop-take 24 m all (omega arith)))))
-    (λ _. record-take m all endForm [] (endValues s) at _ _ (omega arith) (λ h. omega arith)
+    (λ _. record-take m all endForm [] (endValues (records s)) at _ _ (omega arith) (λ h. omega arith)
     (λ z. tail-take s (at + 5) (m - 5) (drop 4 bs) (omega arith) ∙ ap (tail s (at + 5)) (sym (drop-take 5 m all (omega arith))))))
     ∙ sym (items-step s at (take m all))
 
@@ -129,7 +124,7 @@ distances-take : (due : List Pair) (ids ds : List ℕ) (at : ℕ) (bs : List ℕ
 unfolding distances distanceRecord
 distances-take [] ids ds at bs m h = items-take (length bs) _ at bs m (le-refl (length bs)) (omega arith)
 distances-take (p ∷ due) ids ds at bs m h =
-    record-take m bs distanceForm [] (distanceValues ids p) at _ _ (omega arith) (λ _. omega arith)
+    record-take m bs distanceForm [] (distanceValues (length ids) p) at _ _ (omega arith) (λ _. omega arith)
     (λ z. distances-take due ids _ (at + 7) (drop 7 bs) (m - 7) (omega arith)
     ∙ sym (ap₂ (λ (v l : List ℕ). distances due ids (ds ++ (getD v 2 0 ∷ [])) (at + 7) l)
     (values-take m bs distanceForm (omega arith)) (drop-take 7 m bs (omega arith))))

@@ -39,6 +39,23 @@ module _ {A : Type 0} where
   judged-same ((true else r) ∷ checks) stop f g e = judged-same checks stop f g (λ h. e (tt, h))
   judged-same ((false else r) ∷ checks) stop f g e = refl
 
+  -- different checks behind the same ones
+  pub judged-front : (front xs ys : List Check) (stop : Refusal → A) (f g : Unit {0} → A)
+      → (Holds front → judged xs stop f ≡ judged ys stop g) → judged (front ++ xs) stop f ≡ judged (front ++ ys) stop g
+  judged-front front xs ys stop f g e =
+      judged-append front xs stop f ∙ judged-same front stop (λ _. judged xs stop f) (λ _. judged ys stop g) e ∙ sym (judged-append front ys stop g)
+
+-- what was judged was refused, or all held; and then the same checks, judged for another purpose, come out alike
+pub judged-cases : {A B G : Type 0} (checks : List Check) (stop : Refusal → A) (go : Unit {0} → A) (stop′ : Refusal → B) (go′ : Unit {0} → B) (x : A)
+    → judged checks stop go ≡ x
+    → ((r : Refusal) → stop r ≡ x → judged checks stop′ go′ ≡ stop′ r → G)
+    → (Holds checks → go tt ≡ x → judged checks stop′ go′ ≡ go′ tt → G)
+    → G
+unfolding judged
+judged-cases [] stop go stop′ go′ x e f g = g tt e refl
+judged-cases ((true else r) ∷ checks) stop go stop′ go′ x e f g = judged-cases checks stop go stop′ go′ x e f (λ h. g (tt, h))
+judged-cases ((false else r) ∷ checks) stop go stop′ go′ x e f g = f r e refl
+
 pub holds-append : (xs ys : List Check) → Holds (xs ++ ys) → Holds xs × Holds ys
 holds-append [] ys h = (tt, h)
 holds-append ((b else k) ∷ xs) ys h = let (hx, hy) = holds-append xs ys (h .1) in ((h .0, hx), hy)

@@ -12,6 +12,7 @@ pub mod AcceptsLaws
 pub mod ReturnsLaws
 pub mod WrittenLaws
 pub mod BorderLaws
+pub mod PlaceLaws
 pub mod Examples
 pub mod Theorems
 pub mod Plain

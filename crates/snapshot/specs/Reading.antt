@@ -99,11 +99,11 @@ routeValues s v = routeChecks (length (s .ids)) (openRoutes (s .prefixes)) (rout
 unfoldable pub routeRecord : Snapshot → List ℕ → List Check
 routeRecord s = recordChecks routeForm (routeExtra s) (routeValues s)
 
-abbrev pub endValues : Snapshot → List ℕ → List Check
-endValues s v = endChecks (records s) (getD v 0 0)
+abbrev pub endValues : ℕ → List ℕ → List Check
+endValues before v = endChecks before (getD v 0 0)
 
-unfoldable pub endRecord : Snapshot → List ℕ → List Check
-endRecord s = recordChecks endForm [] (endValues s)
+unfoldable pub endRecord : ℕ → List ℕ → List Check
+endRecord before = recordChecks endForm [] (endValues before)
 
 -- after the end record: nothing
 abbrev pub tail : Snapshot → ℕ → List ℕ → Answer
@@ -115,7 +115,7 @@ unfoldable pub item : Snapshot → ℕ → List ℕ → (Unit {0} → Answer) �
 item s at bs afterPrefix afterRoute =
     either (eqb (kind bs) (prefixForm .kind)) (λ _. unless (prefixRecord s bs) at afterPrefix) λ _.
     either (eqb (kind bs) (routeForm .kind)) (λ _. unless (routeRecord s bs) at afterRoute) λ _.
-    unless (endRecord s bs) at λ _. tail s (at + size endForm) (drop (size endForm) bs)
+    unless (endRecord (records s) bs) at λ _. tail s (at + size endForm) (drop (size endForm) bs)
 
 -- what was read so far, with the prefix, or the route, of the record at the front
 abbrev pub withPrefix : Snapshot → List ℕ → Snapshot
@@ -137,16 +137,16 @@ items s at bs = itemsWithin (length bs) s at bs
 
 -- ---- the distances: `due` are the pairs yet to come, `ds` the distances read so far
 
-abbrev pub distanceValues : List ℕ → Pair → List ℕ → List Check
-distanceValues ids due v = distanceChecks (length ids) due (getD v 0 0) (getD v 1 0) (getD v 2 0)
+abbrev pub distanceValues : ℕ → Pair → List ℕ → List Check
+distanceValues n due v = distanceChecks n due (getD v 0 0) (getD v 1 0) (getD v 2 0)
 
-unfoldable pub distanceRecord : List ℕ → Pair → List ℕ → List Check
-distanceRecord ids due = recordChecks distanceForm [] (distanceValues ids due)
+unfoldable pub distanceRecord : ℕ → Pair → List ℕ → List Check
+distanceRecord n due = recordChecks distanceForm [] (distanceValues n due)
 
 unfoldable pub distances : List Pair → List ℕ → List ℕ → ℕ → List ℕ → Answer
 distances [] ids ds at bs = items (record { ids = ids; distances = ds; prefixes = [] }) at bs
 distances (p ∷ due) ids ds at bs =
-    unless (distanceRecord ids p bs) at λ _.
+    unless (distanceRecord (length ids) p bs) at λ _.
     distances due ids (ds ++ (getD (values distanceForm bs) 2 0 ∷ [])) (at + size distanceForm) (drop (size distanceForm) bs)
 
 -- ---- the routers: `left` are yet to come, `ids` are the ids read so far

@@ -91,8 +91,8 @@ module _ (ids ds : List ℕ) where
         let same : done ≡ all = sym (append-nil done) ∙ is in
         let bs : List ℕ = written endForm (records (S all) ∷ []) in
         items-end s at bs (omega arith) (omega arith)
-        ∙ judged-passed (endRecord s bs) _ _
-        (record-passes endForm [] (endValues s) (records (S all) ∷ []) [] tt (small, tt) tt (rw same (eqb-refl (records (S all))), tt))
+        ∙ judged-passed (endRecord (records s) bs) _ _
+        (record-passes endForm [] (endValues (records s)) (records (S all) ∷ []) [] tt (small, tt) tt (rw same (eqb-refl (records (S all))), tt))
         ∙ ap (λ (ps : List Prefix). accepted (S ps)) same
     prefixes-back done (p ∷ ps) at is few routes good =
         let s : Snapshot = S done in
@@ -134,8 +134,8 @@ module _ (ids : List ℕ) (few : length ids ≤ mostRouters) where
       let from : p .from < length ids = of .0 in
       let to : p .to < length ids = of .1 in
       let fit : Fits (distanceForm .widths) vs = (omega arith, (omega arith, (omega arith, tt))) in
-      judged-passed (distanceRecord ids p (written distanceForm vs ++ after)) _ _
-      (record-passes distanceForm [] (distanceValues ids p) vs after tt fit tt
+      judged-passed (distanceRecord (length ids) p (written distanceForm vs ++ after)) _ _
+      (record-passes distanceForm [] (distanceValues (length ids) p) vs after tt fit tt
       (none-cons (leb (length ids) (p .to) ∷ distanceTests d) (lt-leb (length ids) (p .from) from) (none-cons (distanceTests d) (lt-leb (length ids) (p .to) to) (good .0)), (eqb-refl (p .from), (eqb-refl (p .to), tt))))
       ∙ ap (λ (v : List ℕ). distances due ids (ds ++ (getD v 2 0 ∷ [])) (at + 7) after) (values-written distanceForm vs after fit)
       ∙ distances-back a due (ds ++ (d ∷ [])) more (at + 7) rest (of .2) (omega arith) (good .1) (λ at′. rw append-assoc (next at′))
