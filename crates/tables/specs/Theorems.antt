@@ -16,8 +16,8 @@ use Rattle.model.specs.SoundLaws.{Rising, rising-sound}
 use Rattle.model.specs.LoopLaws.{table-length, table-at}
 use Rattle.snapshot.specs.declared.Counts.{Counts}
 use Rattle.snapshot.specs.Limits.{mostRouters, mostInPrefix, mostRoutes}
-use Rattle.snapshot.specs.Ranges.{anyOf, none, routeTests, rises, risesRoute}
-use Rattle.snapshot.specs.RangesLaws.{none-at, none-any, none-cons}
+use Rattle.snapshot.specs.Ranges.{none, routeTests, rises, risesRoute}
+use Rattle.snapshot.specs.RangesLaws.{none-at, none-cons}
 use Rattle.snapshot.specs.Format.{Prefix, Snapshot, Each, GoodId, GoodRoute, GoodPrefix, latest, distance, Valid}
 use Rattle.snapshot.specs.Tables.{Tables, short, Held, routesOf, mesh}
 use Rattle.snapshot.specs.ChecksLaws.{count-range}
@@ -28,9 +28,9 @@ use Rattle.tables.specs.PartsLaws.{and-zero, holding-parts}
 use Rattle.tables.specs.JudgeLaws.{off, start-within}
 
 -- where no table is shorter than its limit, each has its room
-pub has-room : (t : Tables) → anyOf (short t) ≡ false → Room t
-has-room t e =
-    let each = none-at (short t) (none-any (short t) e) in
+pub has-room : (t : Tables) → T (none (short t)) → Room t
+has-room t enough =
+    let each = none-at (short t) enough in
     record {
       ids = ltb-false _ _ (each 0);
       distances = ltb-false _ _ (each 1);

@@ -10,7 +10,13 @@ ghost use Rattle.snapshot.specs.Limits.{mostRouters, roomDistances, mostPrefixe
 ghost use Rattle.snapshot.specs.Ranges.{anyOf};
 ghost use Rattle.snapshot.specs.Plain.{routeIs};
 ghost use Rattle.snapshot.specs.Tables.{columns, tables, short};
-ghost use Rattle.tables.specs.Judging.{RoomRows, RoomPrefixes, Room, prefixTables, routeAt, start, cellTests, lateAt, IdGood, CellGood, RouteGood, PrefixGood, Below, InRange, Totalled, Decides, Judged};
+ghost use Rattle.tables.specs.Judging.{RoomRows, RoomPrefixes, Room, prefixTables, routeAt, start, cellTests, lateAt, IdGood, CellGood, RouteGood, PrefixGood, Below, InRange, Totalled, Decides, Judged, numbered, Verdicts};
+
+// What is found of counts and tables: they hold a snapshot, or a refusal.
+pub enum Verdict {
+    Good,
+    Refused(refusal::Refusal),
+}
 
 // Whether a table is shorter than its limit (ROOM).
 pub fn lacks_room(
@@ -345,4 +351,33 @@ pub fn judge(
         nid,
         peer,
     )
+}
+
+// The checks of tables that writing and the forecast begin with: ROOM, then TABLE.
+pub fn examine(
+    counts: snapshot::Counts,
+    ids: &[u32],
+    distances: &[u32],
+    address: &[u32],
+    bits: &[u32],
+    routes: &[u32],
+    router: &[u32],
+    asn: &[u32],
+    preference: &[u32],
+    path: &[u32],
+    origin: &[u32],
+    mark: &[u32],
+    med: &[u32],
+    nid: &[u32],
+    peer: &[u32],
+) -> Verdict
+    ensures { λ r. ⌜ Verdicts counts (tables (was ids) (was distances) (was address) (was bits) (was routes) (columns (was router) (was asn) (was preference) (was path) (was origin) (was mark) (was med) (was nid) (was peer))) (numbered r) ⌝ }
+{
+    if lacks_room(ids, distances, address, bits, routes, router, asn, preference, path, origin, mark, med, nid, peer) {
+        return Verdict::Refused(refusal::Refusal::Room);
+    }
+    if !judge(counts, ids, distances, address, bits, routes, router, asn, preference, path, origin, mark, med, nid, peer) {
+        return Verdict::Refused(refusal::Refusal::Table);
+    }
+    Verdict::Good
 }

@@ -28,7 +28,7 @@ use Rattle.tables.specs.JudgeLaws.{off}
 use Rattle.tables.specs.Theorems.{has-room, room-enough, held-one}
 use Rattle.writer.specs.declared.Write.{Write}
 use Rattle.writer.specs.declared.Write.the-variants.{Written, Refused}
-use Rattle.writer.specs.Writing.{Said, wrote, said, Writes, room, tables, full, done}
+use Rattle.writer.specs.Writing.{Said, wrote, said, Writes, room, unheld, full, done}
 
 -- ---- any two results are equal
 
@@ -45,20 +45,20 @@ its-room t n = has-room t (off (anyOf (short t)) n)
 module _ {counts : Counts} {t : Tables} {before : List ℕ} where
   same : {p q : Said} {x y : List ℕ} → Writes counts t before p x → Writes counts t before q y → (p ≡ q) × (x ≡ y)
   same (room h) (room k) = (refl, refl)
-  same (room h) (tables n f) = absurd (T-not (anyOf (short t)) h n)
+  same (room h) (unheld n f) = absurd (T-not (anyOf (short t)) h n)
   same (room h) (full n s v k l) = (refl, refl)
   same (room h) (done n s v k l) = absurd (T-not (anyOf (short t)) h n)
-  same (tables n f) (room h) = absurd (T-not (anyOf (short t)) h n)
-  same (tables n f) (tables m g) = (refl, refl)
-  same (tables n f) (full m s v h l) = absurd (f (record { snapshot = s; valid = v; held = h }))
-  same (tables n f) (done m s v h l) = absurd (f (record { snapshot = s; valid = v; held = h }))
+  same (unheld n f) (room h) = absurd (T-not (anyOf (short t)) h n)
+  same (unheld n f) (unheld m g) = (refl, refl)
+  same (unheld n f) (full m s v h l) = absurd (f (record { snapshot = s; valid = v; held = h }))
+  same (unheld n f) (done m s v h l) = absurd (f (record { snapshot = s; valid = v; held = h }))
   same (full n s v k l) (room h) = (refl, refl)
-  same (full m s v h l) (tables n f) = absurd (f (record { snapshot = s; valid = v; held = h }))
+  same (full m s v h l) (unheld n f) = absurd (f (record { snapshot = s; valid = v; held = h }))
   same (full n s v h l) (full m u w k j) = (refl, refl)
   same (full n s v h l) (done m u w k j) =
       absurd (let e = ap (λ (s : Snapshot). length (encode s)) (held-one (its-room t n) v h w k) in omega arith)
   same (done n s v k l) (room h) = absurd (T-not (anyOf (short t)) h n)
-  same (done m s v h l) (tables n f) = absurd (f (record { snapshot = s; valid = v; held = h }))
+  same (done m s v h l) (unheld n f) = absurd (f (record { snapshot = s; valid = v; held = h }))
   same (done n s v h l) (full m u w k j) =
       absurd (let e = ap (λ (s : Snapshot). length (encode s)) (held-one (its-room t n) v h w k) in omega arith)
   same (done n s v h l) (done m u w k j) =
@@ -87,7 +87,7 @@ read-then-written bs s t {before} bytes enough read fits writes =
 written-back : {counts : Counts} {t : Tables} {before after : List ℕ} {q : Said} (n : ℕ) → Writes counts t before q after → q ≡ wrote n
     → (s : Snapshot) × T (none (short t)) × Valid s × Held counts t s × (take n after ≡ encode s)
 written-back n (room h) e = absurd (let z : 1 ≡ 0 = ap (λ (q : Said). q .number) e in omega arith)
-written-back n (tables m f) e = absurd (let z : 11 ≡ 0 = ap (λ (q : Said). q .number) e in omega arith)
+written-back n (unheld m f) e = absurd (let z : 11 ≡ 0 = ap (λ (q : Said). q .number) e in omega arith)
 written-back n (full m s v h l) e = absurd (let z : 1 ≡ 0 = ap (λ (q : Said). q .number) e in omega arith)
 written-back {before} n (done m s v h l) e = (
   s,

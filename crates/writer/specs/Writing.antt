@@ -42,7 +42,7 @@ pub data Writes (counts : Counts) (t : Tables) (before : List ℕ) : Said → Li
   -- a lent table is shorter than its limit
   room : T (anyOf (short t)) → Writes counts t before (refuses Room 0) before
   -- the tables are not those of any snapshot
-  tables : T (none (short t)) → (Holding counts t → ⊥) → Writes counts t before (refuses Table 0) before
+  unheld : T (none (short t)) → (Holding counts t → ⊥) → Writes counts t before (refuses Table 0) before
   -- the output is shorter than the written snapshot
   full : T (none (short t)) → (s : Snapshot) → Valid s → Held counts t s → length before < length (encode s) → Writes counts t before (refuses Room 0) before
   -- the snapshot's bytes stand at the start, all others are as before

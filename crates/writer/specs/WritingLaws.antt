@@ -27,7 +27,7 @@ use Rattle.tables.specs.PartsLaws.{parts-valid, parts-held, holding-parts}
 use Rattle.tables.specs.Theorems.{has-room}
 use Rattle.records.specs.Putting.{Space, Puts}
 use Rattle.records.specs.PuttingLaws.{puts-append}
-use Rattle.writer.specs.Writing.{networkBytes, pairCount, sizeOf, recordsOf, Said, wrote, refuses, Writes, room, tables, full, done}
+use Rattle.writer.specs.Writing.{networkBytes, pairCount, sizeOf, recordsOf, Said, wrote, refuses, Writes, room, unheld, full, done}
 
 -- the pairs of at most 64 routers
 pub pairs-most : (n : ℕ) → n ≤ mostRouters → pairCount n ≤ 4032
