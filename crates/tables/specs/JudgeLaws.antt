@@ -243,7 +243,7 @@ pub start-first : (routes : List ℕ) → start routes 0 ≡ 0
 unfolding start
 start-first routes = refl
 
-pub start-up : (routes : List ℕ) (p q : ℕ) → p ≤ q → start routes p ≤ start routes q
+start-up : (routes : List ℕ) (p q : ℕ) → p ≤ q → start routes p ≤ start routes q
 unfolding start
 start-up routes p zero l = ap≤ (let e : p ≡ 0 = omega arith in e)
   where
@@ -257,6 +257,13 @@ start-up routes p (suc q) l = go (le-or p q l) (start-up routes p q)
     go : (p ≡ suc q) ⊎ (p ≤ q) → (p ≤ q → start routes p ≤ start routes q) → start routes p ≤ start routes q + column routes q
     go (inl e) ih = subst (λ (k : ℕ). start routes k ≤ start routes (suc q)) (sym e) (le-refl (start routes (suc q)))
     go (inr m) ih = let h = ih m in omega arith
+
+-- the routes of a prefix end before those of all end
+pub start-within : (routes : List ℕ) (p n : ℕ) → p < n → start routes p + column routes p ≤ start routes n
+start-within routes p n l =
+    let s = start-next routes p in
+    let up = start-up routes (p + 1) n (omega arith) in
+    omega arith
 
 -- those below p passed, and their routes end at `at`
 pub record Counting (counts : Counts) (t : Tables) (p at : ℕ) : Type 0 where
@@ -279,8 +286,7 @@ module _ {counts : Counts} {t : Tables} where
       pub counting-over : counts .routes < at + column (t .routes) p → Decides (Totalled counts t) false
       counting-over m =
           let h = c .here in
-          let s = start-next (t .routes) p in
-          let up = start-up (t .routes) (p + 1) (counts .prefixes) (omega arith) in
+          let s = start-within (t .routes) p (counts .prefixes) l in
           decides-not (λ total. let sum = total .1 in omega arith)
 
       pub counting-not : (PrefixGood (counts .routers) t p → ⊥) → Decides (Totalled counts t) false

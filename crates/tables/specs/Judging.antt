@@ -5,13 +5,17 @@ use mathlib.Core.Bool.{Bool, true, false, cond, not, _&&_}
 use mathlib.Core.List.{List, [], _∷_, map}
 use lib.ListN.{length}
 use lib.Dec.{T, eqb}
+use Rattle.refusal.specs.declared.Refusal.the-variants as refusal
+use Rattle.refusal.specs.Numbers.{numberOf}
 use Rattle.model.specs.Rows.{table, column}
 use Rattle.model.specs.Decision.{Route}
 use Rattle.snapshot.specs.declared.Counts.{Counts}
 use Rattle.snapshot.specs.Limits.{mostRouters, stride, roomDistances, mostPrefixes, mostRoutes}
-use Rattle.snapshot.specs.Ranges.{none, countTests, distanceTests, rises}
+use Rattle.snapshot.specs.Ranges.{anyOf, none, countTests, distanceTests, rises}
 use Rattle.snapshot.specs.Format.{Prefix, Snapshot, pairs, GoodId, GoodRoute, GoodPrefix, Valid}
-use Rattle.snapshot.specs.Tables.{Columns, Tables, tables, Held}
+use Rattle.snapshot.specs.Tables.{Columns, Tables, tables, short, Held}
+use Rattle.tables.specs.declared.Verdict.{Verdict}
+use Rattle.tables.specs.declared.Verdict.the-variants.{Good, Refused}
 
 -- each column has room for its limit
 pub record RoomRows (c : Columns) : Type 0 where
@@ -149,3 +153,18 @@ pub record Holding (counts : Counts) (t : Tables) : Type 0 where
 -- whether they are
 abbrev pub Judged : Counts → Tables → Bool → Type 0
 Judged counts t answer = Decides (Holding counts t) answer
+
+-- ---- verdicts
+
+-- the paper's number for a verdict: 0, or that of the refusal
+abbrev pub numbered : Verdict → ℕ
+numbered Good = 0
+numbered (Refused r) = numberOf r
+
+-- the number that counts and tables are given
+pub data Verdicts (counts : Counts) (t : Tables) : ℕ → Type 0 where
+  -- a lent table is shorter than its limit
+  room : T (anyOf (short t)) → Verdicts counts t (numberOf refusal.Room)
+  -- they are not those of any snapshot
+  unheld : T (none (short t)) → (Holding counts t → ⊥) → Verdicts counts t (numberOf refusal.Table)
+  held : T (none (short t)) → Holding counts t → Verdicts counts t 0

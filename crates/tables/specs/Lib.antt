@@ -3,4 +3,5 @@ pub mod ListsLaws
 pub mod HeldLaws
 pub mod PartsLaws
 pub mod JudgeLaws
+pub mod FilledLaws
 pub mod Theorems

@@ -6,7 +6,7 @@ use mathlib.Core.Path.{_≡_, refl, sym, ap, _∙_, subst, subst₂}
 use mathlib.Core.Bool.{Bool, true, false, _||_, false≢true}
 use mathlib.Core.List.{List, [], _∷_, _++_, map, append-nil, append-assoc}
 use lib.ListN.{length, getD, take, drop, take-append-drop, List·getD-append}
-use lib.Seq.{sets, sets-eq, ext-getD, getD-drop, getD-take}
+use lib.Seq.{sets, sets-eq, length-sets, drop-append-seam, ext-getD, getD-drop, getD-take}
 use lib.ListN.{length-take, length-drop}
 use Rattle.model.specs.Rows.{some, span, table, column}
 use Rattle.model.specs.LoopLaws.{table-length, table-at, table-same, by}
@@ -129,17 +129,28 @@ module _ (test : ℕ → Bool) (f : ℕ → ℕ) where
 -- ---- a list that stands at the front of another
 
 module _ (xs vs : List ℕ) (long : length vs ≤ length xs) where
+  pub sets-front : sets xs 0 vs ≡ vs ++ drop (length vs) xs
+  sets-front = sets-eq vs xs 0 (omega arith) ∙ ap (λ (k : ℕ). vs ++ drop k xs) (let z : 0 + length vs ≡ length vs = omega arith in z)
+
   -- where to store it would change nothing, it is there
   pub stands : sets xs 0 vs ≡ xs → (k : ℕ) → k < length vs → getD vs k 0 ≡ column xs k
-  stands e k l =
-      sym (List·getD-append vs (drop (0 + length vs) xs) 0 k l)
-      ∙ ap (λ (l : List ℕ). getD l k 0) (sym (sets-eq vs xs 0 (omega arith)) ∙ e)
+  stands e k l = sym (List·getD-append vs (drop (length vs) xs) 0 k l) ∙ ap (λ (l : List ℕ). getD l k 0) (sym sets-front ∙ e)
+
+-- to store it twice is to store it once
+pub sets-twice : (xs vs : List ℕ) → length vs ≤ length xs → sets (sets xs 0 vs) 0 vs ≡ sets xs 0 vs
+sets-twice xs vs h =
+    let long = length-sets xs 0 vs in
+    let once = sets-front xs vs h in
+    sets-front (sets xs 0 vs) vs (omega arith)
+    ∙ ap (λ (d : List ℕ). vs ++ drop (length vs) d) once
+    ∙ ap (λ (d : List ℕ). vs ++ d) (drop-append-seam vs (drop (length vs) xs))
+    ∙ sym once
 
 -- and what is there is stored with no change
 pub stays : (xs : List ℕ) (n : ℕ) → n ≤ length xs → sets xs 0 (table n (column xs)) ≡ xs
 stays xs n h =
     let e = table-length n (column xs) in
-    sets-eq (table n (column xs)) xs 0 (omega arith)
-    ∙ ap (λ (k : ℕ). table n (column xs) ++ drop k xs) (let z : 0 + length (table n (column xs)) ≡ n = omega arith in z)
+    sets-front xs (table n (column xs)) (omega arith)
+    ∙ ap (λ (k : ℕ). table n (column xs) ++ drop k xs) e
     ∙ ap (λ (l : List ℕ). l ++ drop n xs) (table-take xs n h)
     ∙ take-append-drop n xs

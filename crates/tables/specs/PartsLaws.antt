@@ -66,11 +66,11 @@ field-stays f g xs n h e = ap (sets xs 0) (map-map f g (span 0 n) ∙ table-same
 counts-are : (c : Counts) {n p r : ℕ} → n ≡ c .routers → p ≡ c .prefixes → r ≡ c .routes → c ≡ record { routers = n; prefixes = p; routes = r }
 counts-are c e1 e2 e3 = rw (e1, e2, e3)
 
-tables-are : (t : Tables) {ids ds address bits routes : List ℕ} {rows : Columns} → ids ≡ t .ids → ds ≡ t .distances → address ≡ t .address → bits ≡ t .bits
+pub tables-are : (t : Tables) {ids ds address bits routes : List ℕ} {rows : Columns} → ids ≡ t .ids → ds ≡ t .distances → address ≡ t .address → bits ≡ t .bits
     → routes ≡ t .routes → rows ≡ t .rows → tables ids ds address bits routes rows ≡ t
 tables-are t e1 e2 e3 e4 e5 e6 = rw (e1, e2, e3, e4, e5, e6)
 
-columns-are : (c : Columns) {a b d e f g h i j : List ℕ} → a ≡ c .router → b ≡ c .asn → d ≡ c .preference → e ≡ c .path → f ≡ c .origin → g ≡ c .mark
+pub columns-are : (c : Columns) {a b d e f g h i j : List ℕ} → a ≡ c .router → b ≡ c .asn → d ≡ c .preference → e ≡ c .path → f ≡ c .origin → g ≡ c .mark
     → h ≡ c .med → i ≡ c .nid → j ≡ c .peer → columns a b d e f g h i j ≡ c
 columns-are c e1 e2 e3 e4 e5 e6 e7 e8 e9 = rw (e1, e2, e3, e4, e5, e6, e7, e8, e9)
 

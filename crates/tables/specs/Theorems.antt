@@ -7,7 +7,7 @@ use mathlib.Core.Bool.{Bool, true, false, _||_, _&&_, not}
 use mathlib.Core.List.{List, [], _∷_, map, map-map}
 use lib.ListN.{length, getD, take, drop, length-map}
 use lib.Dec.{T, eqb, ltb}
-use borrow.Author.Tests.{leb-false, eq-eqb, eqb-false}
+use borrow.Author.Tests.{leb-false, ltb-false, le-ltb, eq-eqb, eqb-false}
 use mir.Facts.{or-yes, and-yes, ltb-yes, eqb-yes}
 use Rattle.model.specs.Rows.{span, table, column, some}
 use Rattle.model.specs.Decision.{Route, Mesh}
@@ -16,16 +16,83 @@ use Rattle.model.specs.SoundLaws.{Rising, rising-sound}
 use Rattle.model.specs.LoopLaws.{table-length, table-at}
 use Rattle.snapshot.specs.declared.Counts.{Counts}
 use Rattle.snapshot.specs.Limits.{mostRouters, mostInPrefix, mostRoutes}
-use Rattle.snapshot.specs.Ranges.{routeTests, rises, risesRoute}
-use Rattle.snapshot.specs.RangesLaws.{none-at}
+use Rattle.snapshot.specs.Ranges.{none, routeTests, rises, risesRoute}
+use Rattle.snapshot.specs.RangesLaws.{none-at, none-cons}
 use Rattle.snapshot.specs.Format.{Prefix, Snapshot, Each, GoodId, GoodRoute, GoodPrefix, latest, distance, Valid}
-use Rattle.snapshot.specs.Tables.{Tables, Held, routesOf, mesh}
+use Rattle.snapshot.specs.Tables.{Tables, short, Held, routesOf, mesh}
 use Rattle.snapshot.specs.ChecksLaws.{count-range}
 use Rattle.tables.specs.Judging.{Room, routeAt, start, routesAt, prefixAt, cell, snapshotOf, Holding}
 use Rattle.tables.specs.ListsLaws.{map-at, as-table, each-below, latest-table, table-none, table-part, table-take}
 use Rattle.tables.specs.HeldLaws.{no-prefix, no-route, few, n-is, cell-is, held-is}
 use Rattle.tables.specs.PartsLaws.{and-zero, holding-parts}
-use Rattle.tables.specs.JudgeLaws.{off, start-next, start-up}
+use Rattle.tables.specs.JudgeLaws.{off, start-within}
+
+-- where no table is shorter than its limit, each has its room
+pub has-room : (t : Tables) → T (none (short t)) → Room t
+has-room t enough =
+    let each = none-at (short t) enough in
+    record {
+      ids = ltb-false _ _ (each 0);
+      distances = ltb-false _ _ (each 1);
+      prefixes = record {
+        address = ltb-false _ _ (each 2);
+        bits = ltb-false _ _ (each 3);
+        routes = ltb-false _ _ (each 4);
+        rows = record {
+          router = ltb-false _ _ (each 5);
+          asn = ltb-false _ _ (each 6);
+          preference = ltb-false _ _ (each 7);
+          path = ltb-false _ _ (each 8);
+          origin = ltb-false _ _ (each 9);
+          mark = ltb-false _ _ (each 10);
+          med = ltb-false _ _ (each 11);
+          nid = ltb-false _ _ (each 12);
+          peer = ltb-false _ _ (each 13);
+        };
+      };
+    }
+
+abbrev AllFalse : List Bool → Type 0
+AllFalse [] = Unit {0}
+AllFalse (b ∷ bs) = (b ≡ false) × AllFalse bs
+
+all-false : (bs : List Bool) → AllFalse bs → T (none bs)
+all-false [] h = tt
+all-false (b ∷ bs) h = none-cons bs (h .0) (all-false bs (h .1))
+
+-- and the other way round
+pub room-enough : (t : Tables) → Room t → T (none (short t))
+room-enough t room =
+    let p = room .prefixes in
+    let r = p .rows in
+    all-false (short t) (
+      le-ltb _ _ (room .ids),
+      (
+        le-ltb _ _ (room .distances),
+        (
+          le-ltb _ _ (p .address),
+          (
+            le-ltb _ _ (p .bits),
+            (
+              le-ltb _ _ (p .routes),
+              (
+                le-ltb _ _ (r .router),
+                (
+                  le-ltb _ _ (r .asn),
+                  (
+                    le-ltb _ _ (r .preference),
+                    (
+                      le-ltb _ _ (r .path),
+                      (le-ltb _ _ (r .origin), (le-ltb _ _ (r .mark), (le-ltb _ _ (r .med), (le-ltb _ _ (r .nid), (le-ltb _ _ (r .peer), tt))))),
+                    ),
+                  ),
+                ),
+              ),
+            ),
+          ),
+        ),
+      ),
+    )
 
 -- two valid snapshots that are held by the same counts and tables are one
 pub held-one : {counts : Counts} {t : Tables} {s u : Snapshot} → Room t → Valid s → Held counts t s → Valid u → Held counts t u → s ≡ u
@@ -63,8 +130,7 @@ module _ {counts : Counts} {t : Tables} {s : Snapshot} (room : Room t) (valid : 
     held-fits =
         let parts = holding-parts room (record { snapshot = s; valid = valid; held = held }) in
         let count = held-count in
-        let next = start-next (t .routes) p in
-        let up = start-up (t .routes) (p + 1) (counts .prefixes) (omega arith) in
+        let within = start-within (t .routes) p (counts .prefixes) below in
         let sum = parts .prefixes .1 in
         let most = parts .range .routes in
         omega arith

@@ -9,8 +9,49 @@ ghost use Rattle.model.specs.Lent.{was, col};
 ghost use Rattle.snapshot.specs.Limits.{mostRouters, roomDistances, mostPrefixes, mostRoutes};
 ghost use Rattle.snapshot.specs.Ranges.{anyOf};
 ghost use Rattle.snapshot.specs.Plain.{routeIs};
-ghost use Rattle.snapshot.specs.Tables.{columns, tables};
-ghost use Rattle.tables.specs.Judging.{RoomRows, RoomPrefixes, Room, prefixTables, routeAt, start, cellTests, lateAt, IdGood, CellGood, RouteGood, PrefixGood, Below, InRange, Totalled, Decides, Judged};
+ghost use Rattle.snapshot.specs.Tables.{columns, tables, short};
+ghost use Rattle.tables.specs.Judging.{RoomRows, RoomPrefixes, Room, prefixTables, routeAt, start, cellTests, lateAt, IdGood, CellGood, RouteGood, PrefixGood, Below, InRange, Totalled, Decides, Judged, numbered, Verdicts};
+
+// What is found of counts and tables: they hold a snapshot, or a refusal.
+pub enum Verdict {
+    Good,
+    Refused(refusal::Refusal),
+}
+
+// Whether a table is shorter than its limit (ROOM).
+pub fn lacks_room(
+    ids: &[u32],
+    distances: &[u32],
+    address: &[u32],
+    bits: &[u32],
+    routes: &[u32],
+    router: &[u32],
+    asn: &[u32],
+    preference: &[u32],
+    path: &[u32],
+    origin: &[u32],
+    mark: &[u32],
+    med: &[u32],
+    nid: &[u32],
+    peer: &[u32],
+) -> bool
+    ensures { λ r. ⌜ r ≡ anyOf (short (tables (was ids) (was distances) (was address) (was bits) (was routes) (columns (was router) (was asn) (was preference) (was path) (was origin) (was mark) (was med) (was nid) (was peer)))) ⌝ }
+{
+    (ids.len() < snapshot::MOST_ROUTERS as usize)
+        | (distances.len() < snapshot::ROOM_DISTANCES)
+        | (address.len() < snapshot::MOST_PREFIXES as usize)
+        | (bits.len() < snapshot::MOST_PREFIXES as usize)
+        | (routes.len() < snapshot::MOST_PREFIXES as usize)
+        | (router.len() < snapshot::MOST_ROUTES as usize)
+        | (asn.len() < snapshot::MOST_ROUTES as usize)
+        | (preference.len() < snapshot::MOST_ROUTES as usize)
+        | (path.len() < snapshot::MOST_ROUTES as usize)
+        | (origin.len() < snapshot::MOST_ROUTES as usize)
+        | (mark.len() < snapshot::MOST_ROUTES as usize)
+        | (med.len() < snapshot::MOST_ROUTES as usize)
+        | (nid.len() < snapshot::MOST_ROUTES as usize)
+        | (peer.len() < snapshot::MOST_ROUTES as usize)
+}
 
 // Whether counts are in their ranges.
 fn counts_good(counts: snapshot::Counts) -> bool
@@ -310,4 +351,33 @@ pub fn judge(
         nid,
         peer,
     )
+}
+
+// The checks of tables that writing and the forecast begin with: ROOM, then TABLE.
+pub fn examine(
+    counts: snapshot::Counts,
+    ids: &[u32],
+    distances: &[u32],
+    address: &[u32],
+    bits: &[u32],
+    routes: &[u32],
+    router: &[u32],
+    asn: &[u32],
+    preference: &[u32],
+    path: &[u32],
+    origin: &[u32],
+    mark: &[u32],
+    med: &[u32],
+    nid: &[u32],
+    peer: &[u32],
+) -> Verdict
+    ensures { λ r. ⌜ Verdicts counts (tables (was ids) (was distances) (was address) (was bits) (was routes) (columns (was router) (was asn) (was preference) (was path) (was origin) (was mark) (was med) (was nid) (was peer))) (numbered r) ⌝ }
+{
+    if lacks_room(ids, distances, address, bits, routes, router, asn, preference, path, origin, mark, med, nid, peer) {
+        return Verdict::Refused(refusal::Refusal::Room);
+    }
+    if !judge(counts, ids, distances, address, bits, routes, router, asn, preference, path, origin, mark, med, nid, peer) {
+        return Verdict::Refused(refusal::Refusal::Table);
+    }
+    Verdict::Good
 }
