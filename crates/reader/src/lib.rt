@@ -5,7 +5,6 @@ ghost use Rattle.snapshot.specs.Tables.{columns, tables};
 ghost use Rattle.reader.specs.Read.{readAnswer, readTables};
 use refusal::Refusal;
 use scan::Read;
-use snapshot::Counts;
 
 // Reads a snapshot into the lent tables. Each table has room for its limit, or nothing is read; the whole input is judged before
 // the first entry is altered.
