@@ -2,7 +2,6 @@
 #include "desk.h"
 
 #include <stdio.h>
-#include <string.h>
 
 static unsigned passed, failed;
 
@@ -45,10 +44,10 @@ void answered(const char *what, const uint8_t *snapshot, size_t length, uint32_t
         area[place] = before(place);
     }
     uint32_t given = barrierose_forecast(snapshot, length, prefix, area, area_len);
-    if (given != wanted) {
-        printf("%u in the place of %u: ", (unsigned)given, (unsigned)wanted);
-    }
     check(given == wanted, what);
+    if (given != wanted) {
+        printf("    %u in the place of %u\n", (unsigned)given, (unsigned)wanted);
+    }
     check(holds(area, sizeof area, rows, routers), what);
 }
 
