@@ -38,11 +38,12 @@ cargo_tests() {
 # added COMMAND ..: runs a command whose last line is 'N passed, M failed' and adds both to the sum.
 # One that ends otherwise, or badly with no failure counted, is a failure itself.
 added() {
-    local log status
+    local log status last
     log=$(mktemp)
     "$@" 2>&1 | tee "$log"
     status=${PIPESTATUS[0]}
-    if [[ $(tail -n 1 "$log") =~ ^([0-9]+)\ passed,\ ([0-9]+)\ failed$ && ($status -eq 0 || ${BASH_REMATCH[2]} -gt 0) ]]; then
+    last=$(tail -n 1 "$log")
+    if [[ $last =~ ^([0-9]+)\ passed,\ ([0-9]+)\ failed$ && ($status -eq 0 || ${BASH_REMATCH[2]} -gt 0) ]]; then
         passed=$((passed + BASH_REMATCH[1]))
         failed=$((failed + BASH_REMATCH[2]))
     else

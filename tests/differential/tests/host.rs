@@ -110,6 +110,26 @@ fn every_byte_with_every_value() {
     assert!(tally.refusals() > 10_000 && tally.open() > 1000 && tally.settled() > 1000);
 }
 
+/// Two and four bytes at every place, with values at which a range may end.
+#[test]
+fn every_place_with_values_at_the_ends_of_ranges() {
+    const TWO: [u16; 6] = [0, 1, 2, 65_533, 65_534, 65_535];
+    const FOUR: [u32; 8] = [0, 1, 15, 16, 17, 16_777_215, 16_777_216, u32::MAX];
+    let mut tally = Tally::default();
+    let whole = small();
+    let values =
+        TWO.iter().map(|value| value.to_be_bytes().to_vec()).chain(FOUR.map(|value| value.to_be_bytes().to_vec()));
+    for value in values {
+        for place in 0..=whole.len() - value.len() {
+            let mut altered = whole.clone();
+            altered[place..place + value.len()].copy_from_slice(&value);
+            tally.ask_all(&format!("bytes from {place} are {value:?}"), &altered);
+        }
+    }
+    tally.say("two and four bytes at every place");
+    assert!(tally.refusals() > 1000 && tally.open() + tally.settled() > 500);
+}
+
 /// Once as it is, and once with an end record that counts what is left, so that a dropped piece can pass for a whole.
 #[test]
 fn every_run_of_bytes_dropped() {
