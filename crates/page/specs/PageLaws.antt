@@ -49,6 +49,12 @@ module _ (M : Mesh) {d : Differing} {early₀ early₁ late₀ late₁ : List �
   pub late-front : take (M .routers) late₁ ≡ late M
   late-front = ap (take (M .routers)) (shown .late-area) ∙ front late₀ (late M) (size M (latest (contest M))) l
 
+  pub early-long : length (take (M .routers) early₁) ≡ M .routers
+  early-long = ap length early-front ∙ size M (earliest (contest M))
+
+  pub late-long : length (take (M .routers) late₁) ≡ M .routers
+  late-long = ap length late-front ∙ size M (latest (contest M))
+
   rows-of : (router : List ℕ) (held : List ℕ) (x : List ℕ) → held ≡ holding M x → length router ≡ M .rows → Rows router held
   rows-of router held x h n = record {
     row = λ r k. subst (λ (z : List ℕ). (getD z r none ≡ none) ⊎ (getD z r none < length router)) (sym h)
