@@ -1,5 +1,5 @@
 -- The printed forecast of a snapshot's bytes.
-use Prim.Native.Nat.{ℕ, _+_, _*_, _<_}
+use Prim.Native.Nat.{ℕ, _+_, _*_, _≤_, _<_}
 use mathlib.Core.Path.{_≡_}
 use mathlib.Core.Logic.{_⊎_}
 use mathlib.Core.Bool.{not}
@@ -7,7 +7,8 @@ use mathlib.Core.List.{List, _++_, map}
 use lib.Dec.{eqb}
 use lib.ListN.{length, getD}
 use Rattle.refusal.specs.Numbers.{numberOf}
-use Rattle.model.specs.Rows.{span}
+use Rattle.model.specs.Rows.{span, column}
+use Rattle.model.specs.Columns.{Columns, lentMesh}
 use Rattle.model.specs.Decision.{Mesh, none}
 use Rattle.model.specs.Stability.{differing}
 use Rattle.model.specs.Contest.{early, late}
@@ -15,6 +16,8 @@ use Rattle.snapshot.specs.Limits.{mostRouters, mostPrefixes}
 use Rattle.snapshot.specs.Format.{Snapshot}
 use Rattle.snapshot.specs.Reading.{Answer, accepted, refused, reading}
 use Rattle.snapshot.specs.Tables.{mesh}
+use Rattle.tables.specs.Judging.{start}
+use Rattle.outlook.specs.Outlook.{cut, Part}
 use Rattle.text.specs.Text.{each}
 use Rattle.lines.specs.Lines.{widest, headingLine, refusedLine, prefixLine, routerLine}
 
@@ -60,3 +63,18 @@ answerText (refused r at) = refusedLine (numberOf r) at
 -- the page of a snapshot's bytes
 unfoldable pub page : List ℕ → List ℕ
 page bs = answerText (reading bs)
+
+-- ---- what the code knows of lent tables
+
+-- the text of a prefix of lent tables
+abbrev pub lentText : ℕ → List ℕ → List ℕ → List ℕ → List ℕ → List ℕ → Columns → ℕ → List ℕ
+lentText routers ids distances address bits routes c p =
+    decidedText (column address p) (column bits p) (lentMesh routers ids distances (cut (start routes p) (column routes p) c))
+
+-- so many prefixes, each of which may be decided, with areas of these lengths
+pub record Blocks (routers prefixes : ℕ) (ids distances address bits routes : List ℕ) (c : Columns) (earlies lates : ℕ) : Type 0 where
+  pub addresses : prefixes ≤ length address
+  pub lengths : prefixes ≤ length bits
+  pub numbers : prefixes ≤ length routes
+  pub part : (p first end : ℕ) → p < prefixes → first ≡ start routes p → end ≡ first + column routes p
+      → (early late : List ℕ) → length early ≡ earlies → length late ≡ lates → Part routers first end ids distances c early late

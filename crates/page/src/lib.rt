@@ -11,7 +11,7 @@ ghost use Rattle.model.specs.Columns.{columns, lentMesh};
 ghost use Rattle.outlook.specs.Outlook.{cut, Part};
 ghost use Rattle.text.specs.Text.{each, Puts};
 ghost use Rattle.lines.specs.Lines.{widest, routerLine};
-ghost use Rattle.page.specs.Page.{Rows, block, widestBlock, decidedText};
+ghost use Rattle.page.specs.Page.{Rows, block, widestBlock, decidedText, lentText, Blocks};
 
 // Puts the line of every router.
 fn put_routers(
@@ -78,8 +78,21 @@ fn put_decided(
     ensures { λ next. ⌜ Puts (was out) (is out) at next (decidedText address bits (lentMesh routers (was ids) (was distances) (cut first (end - first) (columns (was router) (was asn) (was preference) (was path) (was origin) (was med) (was nid) (was peer))))) × (next ≤ at + widestBlock) ⌝ }
 {
     let d = outlook::shown(
-        routers, first, end, ids, distances, router, asn, preference, path, origin, med, nid, peer,
-        early, late,
+        routers,
+        first,
+        end,
+        ids,
+        distances,
+        router,
+        asn,
+        preference,
+        path,
+        origin,
+        med,
+        nid,
+        peer,
+        early,
+        late,
     );
     put_block(
         out,
@@ -91,4 +104,60 @@ fn put_decided(
         &early[..routers],
         &late[..routers],
     )
+}
+
+// Puts the blocks of so many prefixes of lent tables.
+fn put_prefixes(
+    out: &mut [u8],
+    at: usize,
+    routers: usize,
+    prefixes: usize,
+    ids: &[u32],
+    distances: &[u32],
+    address: &[u32],
+    bits: &[u32],
+    routes: &[u32],
+    router: &[u32],
+    asn: &[u32],
+    preference: &[u32],
+    path: &[u32],
+    origin: &[u32],
+    med: &[u32],
+    nid: &[u32],
+    peer: &[u32],
+    early: &mut [u16],
+    late: &mut [u16],
+) -> usize
+    requires { ⌜ Blocks routers prefixes (now ids) (now distances) (now address) (now bits) (now routes) (columns (now router) (now asn) (now preference) (now path) (now origin) (now med) (now nid) (now peer)) (length (now early)) (length (now late)) ⌝ }
+    requires { ⌜ at + widestBlock * prefixes ≤ length (now out) ⌝ }
+    ensures { λ end. ⌜ Puts (was out) (is out) at end (each (lentText routers (was ids) (was distances) (was address) (was bits) (was routes) (columns (was router) (was asn) (was preference) (was path) (was origin) (was med) (was nid) (was peer))) (span 0 prefixes)) × (end ≤ at + widestBlock * prefixes) ⌝ }
+{
+    let mut end = at;
+    let mut first = 0;
+    for p in 0..prefixes {
+        let last = first + routes[p] as usize;
+        end = put_decided(
+            out,
+            end,
+            address[p],
+            bits[p],
+            routers,
+            first,
+            last,
+            ids,
+            distances,
+            router,
+            asn,
+            preference,
+            path,
+            origin,
+            med,
+            nid,
+            peer,
+            early,
+            late,
+        );
+        first = last;
+    }
+    end
 }
