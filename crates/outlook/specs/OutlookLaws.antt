@@ -235,12 +235,9 @@ module _ {n n′ : ℕ} (e : n ≡ n′) (ids distances : List ℕ) (c : Columns
 
 -- ---- the whole call
 
-module _ (counts : Counts) (t : Tables) (p : ℕ) (early₀ late₀ : List ℕ) (enough : anyOf (shortOf t early₀ late₀) ≡ false) (holding : Holding counts t) (below : p < counts .prefixes) where
+module _ (counts : Counts) (t : Tables) (p : ℕ) (roomy : Room t) (holding : Holding counts t) (below : p < counts .prefixes) where
   abbrev s : Snapshot
   s = holding .snapshot
-
-  abbrev roomy : Room t
-  roomy = has-room t early₀ late₀ enough
 
   n-is : counts .routers ≡ length (s .ids)
   n-is = ap (λ (c : Counts). c .routers) (holding .held .0)
@@ -285,6 +282,13 @@ module _ (counts : Counts) (t : Tables) (p : ℕ) (early₀ late₀ : List ℕ) 
   pub fits-in : start (t .routes) p + column (t .routes) p ≤ mostRoutes
   fits-in = omega (arith, held-count roomy (holding .valid) (holding .held) p below, held-fits roomy (holding .valid) (holding .held) p below)
 
+  pair : (early (lent roomy (holding .valid) (holding .held) p there) ≡ early (mesh s p)) × (late (lent roomy (holding .valid) (holding .held) p there) ≡ late (mesh s p))
+  pair =
+      let M = mesh s p in
+      let L = lent roomy (holding .valid) (holding .held) p there in
+      let known = sound (holding .valid) p there in
+      pair-determined M known (early L) (late L) (early M) (late M) (lent-between roomy (holding .valid) (holding .held) p there) (forecast M known)
+
   module _ {first end : ℕ} (f : first ≡ start (t .routes) p) (e : end ≡ first + column (t .routes) p) where
     cut-is : cut first (end - first) (whole t) ≡ columnsOf (routesOf s p)
     cut-is =
@@ -292,8 +296,8 @@ module _ (counts : Counts) (t : Tables) (p : ℕ) (early₀ late₀ : List ℕ) 
         ∙ same-parts
 
     -- what the code needs to know of them
-    pub part-of : Part (counts .routers) first end (t .ids) (t .distances) (whole t) early₀ late₀
-    part-of = record {
+    pub part-of : (early₀ late₀ : List ℕ) → mostRouters ≤ length early₀ → mostRouters ≤ length late₀ → Part (counts .routers) first end (t .ids) (t .distances) (whole t) early₀ late₀
+    part-of early₀ late₀ re rl = record {
       ordered = omega arith;
       fits = omega (arith, fits-in);
       router = roomy .prefixes .rows .router;
@@ -305,15 +309,15 @@ module _ (counts : Counts) (t : Tables) (p : ℕ) (early₀ late₀ : List ℕ) 
       nid = roomy .prefixes .rows .nid;
       peer = roomy .prefixes .rows .peer;
       placed = subst (Placed (counts .routers) (t .ids) (t .distances)) (sym cut-is) placed;
-      earlies = omega (arith, few, early-room t early₀ late₀ enough);
-      lates = omega (arith, few, late-room t early₀ late₀ enough);
+      earlies = omega (arith, few);
+      lates = omega (arith, few);
     }
 
     -- what the code shows is the forecast
-    pub shown-given : {d : Differing} {early₁ late₁ : List ℕ}
+    pub shown-given : (early₀ late₀ : List ℕ) → anyOf (shortOf t early₀ late₀) ≡ false → {d : Differing} {early₁ late₁ : List ℕ}
         → Shown (lentMesh (counts .routers) (t .ids) (t .distances) (cut first (end - first) (whole t))) d early₀ early₁ late₀ late₁
         → Forecasts counts t p early₀ late₀ (Forecast d) early₁ late₁
-    shown-given {d} {early₁} {late₁} h =
+    shown-given early₀ late₀ enough {d} {early₁} {late₁} h =
         subst (λ (x : Differing). Forecasts counts t p early₀ late₀ (Forecast x) early₁ late₁) (sym answer)
         (subst (λ (x : List ℕ). Forecasts counts t p early₀ late₀ (Forecast (differingOf (mesh s p) (early L) (late L))) x late₁) (sym (k .early-area))
         (subst (λ (x : List ℕ). Forecasts counts t p early₀ late₀ (Forecast (differingOf (mesh s p) (early L) (late L))) (sets early₀ 0 (early L)) x) (sym (k .late-area))
@@ -330,3 +334,10 @@ module _ (counts : Counts) (t : Tables) (p : ℕ) (early₀ late₀ : List ℕ) 
           where
             counted : List ℕ → Differing
             counted rs = record { word = word rs; number = length rs }
+
+    -- and its rows are those of that prefix of the snapshot
+    pub same-early : early (lentMesh (counts .routers) (t .ids) (t .distances) (cut first (end - first) (whole t))) ≡ early (mesh s p)
+    same-early = ap (λ (c : Columns). early (lentMesh (counts .routers) (t .ids) (t .distances) c)) cut-is ∙ pair .0
+
+    pub same-late : late (lentMesh (counts .routers) (t .ids) (t .distances) (cut first (end - first) (whole t))) ≡ late (mesh s p)
+    same-late = ap (λ (c : Columns). late (lentMesh (counts .routers) (t .ids) (t .distances) c)) cut-is ∙ pair .1

@@ -3,11 +3,11 @@ use mathlib.Core.Path.{refl, ap}
 use denote.Ref.{now}
 use Rattle.snapshot.specs.declared.Counts.{Counts}
 use Rattle.snapshot.specs.Tables.{Tables, tables, columns}
-use Rattle.tables.specs.Judging.{Holding}
+use Rattle.tables.specs.Judging.{Room, Holding}
 use borrow.Author.Needs.{needs}
 use borrow.Author.Tests.{not-true, not-false}
 use Rattle.outlook.specs.Outlook.{room, noSnapshot, noPrefix}
-use Rattle.outlook.specs.OutlookLaws.{has-room, inside, fits-in, part-of, shown-given}
+use Rattle.outlook.specs.OutlookLaws.{has-room, early-room, late-room, inside, fits-in, part-of, shown-given}
 use Rattle.outlook.proofs.forecast.Statement.{statement}
 use Rattle.outlook.proofs.forecast.Tie as tie
 
@@ -55,32 +55,35 @@ holding there =
     let good : tie.Else2 = search needs in
     asked .judge .ensures .yes (not-false (asked .judge .result) (good .if2 .left))
 
+roomy : (there : tie.Else3) → Room (lent (begun there))
+roomy there = has-room (lent (begun there)) (now (begun there .args .early)) (now (begun there .args .late)) (long there .if1 .left)
+
 start-of-requires : tie.Need-start-of-requires
 start-of-requires c κs =
     let there : tie.Else3 = search needs in
     let a = begun there .args in
-    let l = inside (a .counts) (lent (begun there)) (a .prefix) (now (a .early)) (now (a .late)) (long there .if1 .left) (holding there) (there .if3 .left) in
-    (omega arith, omega (arith, fits-in (a .counts) (lent (begun there)) (a .prefix) (now (a .early)) (now (a .late)) (long there .if1 .left) (holding there) (there .if3 .left)))
+    let l = inside (a .counts) (lent (begun there)) (a .prefix) (roomy there) (holding there) (there .if3 .left) in
+    (omega arith, omega (arith, fits-in (a .counts) (lent (begun there)) (a .prefix) (roomy there) (holding there) (there .if3 .left)))
 
 shared-slice-read-end : tie.Need-shared-slice-read-end
 shared-slice-read-end c =
     let there : tie.Else3 = search needs in
     let a = begun there .args in
-    inside (a .counts) (lent (begun there)) (a .prefix) (now (a .early)) (now (a .late)) (long there .if1 .left) (holding there) (there .if3 .left)
+    inside (a .counts) (lent (begun there)) (a .prefix) (roomy there) (holding there) (there .if3 .left)
 
 add-end : tie.Need-add-end
 add-end c =
     let there : tie.Else3 = search needs in
     let found : tie.After-start-of = search needs in
     let a = begun there .args in
-    record { fits = omega (arith, found .start-of .ensures, fits-in (a .counts) (lent (begun there)) (a .prefix) (now (a .early)) (now (a .late)) (long there .if1 .left) (holding there) (there .if3 .left)) }
+    record { fits = omega (arith, found .start-of .ensures, fits-in (a .counts) (lent (begun there)) (a .prefix) (roomy there) (holding there) (there .if3 .left)) }
 
 shown-requires : tie.Need-shown-requires
 shown-requires c κs =
     let there : tie.Else3 = search needs in
     let found : tie.After-start-of = search needs in
     let a = begun there .args in
-    part-of (a .counts) (lent (begun there)) (a .prefix) (now (a .early)) (now (a .late)) (long there .if1 .left) (holding there) (there .if3 .left) (found .start-of .ensures) refl
+    part-of (a .counts) (lent (begun there)) (a .prefix) (roomy there) (holding there) (there .if3 .left) (found .start-of .ensures) refl (now (a .early)) (now (a .late)) (early-room (lent (begun there)) (now (a .early)) (now (a .late)) (long there .if1 .left)) (late-room (lent (begun there)) (now (a .early)) (now (a .late)) (long there .if1 .left))
 
 abbrev past : tie.After-shown → tie.Else3
 past made = search needs
@@ -93,7 +96,7 @@ returns-4 c =
     let made : tie.After-shown = search needs in
     let there = past made in
     let a = begun there .args in
-    shown-given (a .counts) (lent (begun there)) (a .prefix) (now (a .early)) (now (a .late)) (long there .if1 .left) (holding there) (there .if3 .left) (first made .start-of .ensures) refl (made .shown .ensures)
+    shown-given (a .counts) (lent (begun there)) (a .prefix) (roomy there) (holding there) (there .if3 .left) (first made .start-of .ensures) refl (now (a .early)) (now (a .late)) (long there .if1 .left) (made .shown .ensures)
 
 pub forecast-spec : {M : Type 1} → statement M
 forecast-spec =
