@@ -73,12 +73,14 @@ pub fn fill_distances(input: &[u8], n: usize, distances: &mut [u32])
     let mut k = 0;
     while k < end {
         let next = k + 1;
+        let from = k / stride;
         let to = k % stride;
-        if n <= to {
+        let unused = n <= to;
+        if unused {
             k = next;
             continue;
         }
-        distances[k] = distance_in(input, n, k / stride, to);
+        distances[k] = distance_in(input, n, from, to);
         k = next;
     }
 }

@@ -2,7 +2,7 @@
 use Prim.Native.Nat.{ℕ, _+_, _*_, _≤_, _<_}
 use mathlib.Core.Path.{_≡_}
 use mathlib.Core.Logic.{_⊎_}
-use mathlib.Core.Bool.{not}
+use mathlib.Core.Bool.{false, not}
 use mathlib.Core.List.{List, _++_, map}
 use lib.Dec.{eqb}
 use lib.ListN.{length, getD}
@@ -15,7 +15,8 @@ use Rattle.model.specs.Contest.{early, late}
 use Rattle.snapshot.specs.Limits.{mostRouters, mostPrefixes}
 use Rattle.snapshot.specs.Format.{Snapshot}
 use Rattle.snapshot.specs.Reading.{Answer, accepted, refused, reading}
-use Rattle.snapshot.specs.Tables.{mesh}
+use Rattle.snapshot.specs.Ranges.{anyOf}
+use Rattle.snapshot.specs.Tables.{Tables, short, mesh}
 use Rattle.tables.specs.Judging.{start}
 use Rattle.outlook.specs.Outlook.{cut, Part}
 use Rattle.text.specs.Text.{each}
@@ -78,3 +79,10 @@ pub record Blocks (routers prefixes : ℕ) (ids distances address bits routes : 
   pub numbers : prefixes ≤ length routes
   pub part : (p first end : ℕ) → p < prefixes → first ≡ start routes p → end ≡ first + column routes p
       → (early late : List ℕ) → length early ≡ earlies → length late ≡ lates → Part routers first end ids distances c early late
+
+-- tables and areas with room, and a buffer in which any page fits
+pub record Ready (t : Tables) (early late out : List ℕ) : Type 0 where
+  pub room : anyOf (short t) ≡ false
+  pub earlies : mostRouters ≤ length early
+  pub lates : mostRouters ≤ length late
+  pub out-long : widestPage ≤ length out

@@ -1,17 +1,21 @@
 // The printed forecast of a snapshot's bytes, put into a lent buffer.
+use refusal::Refusal;
+use scan::Read;
+use snapshot::Counts;
 ghost use mathlib.Core.Path.{_≡_};
-ghost use mathlib.Core.Logic.{_⊎_};
+ghost use mathlib.Core.List.{_++_};
 ghost use Prim.Native.Nat.{ℕ, _+_, _-_, _*_, _≤_, _<_};
 ghost use lib.ListN.{length, getD};
 ghost use Rattle.model.specs.Rows.{span};
 ghost use Rattle.model.specs.Decision.{none};
 ghost use Rattle.model.specs.Lent.{was, is, col};
 ghost use Rattle.snapshot.specs.Limits.{mostRouters};
+ghost use Rattle.snapshot.specs.Tables.{tables, columns as rowColumns};
 ghost use Rattle.model.specs.Columns.{columns, lentMesh};
 ghost use Rattle.outlook.specs.Outlook.{cut, Part};
 ghost use Rattle.text.specs.Text.{each, Puts};
-ghost use Rattle.lines.specs.Lines.{widest, routerLine};
-ghost use Rattle.page.specs.Page.{Rows, block, widestBlock, decidedText, lentText, Blocks};
+ghost use Rattle.lines.specs.Lines.{widest, headingLine, routerLine};
+ghost use Rattle.page.specs.Page.{Rows, block, widestBlock, decidedText, lentText, Blocks, Ready, page};
 
 // Puts the line of every router.
 fn put_routers(
@@ -160,4 +164,116 @@ fn put_prefixes(
         first = last;
     }
     end
+}
+
+// Puts the page of tables that hold a snapshot.
+fn put_tables(
+    out: &mut [u8],
+    counts: Counts,
+    ids: &[u32],
+    distances: &[u32],
+    address: &[u32],
+    bits: &[u32],
+    routes: &[u32],
+    router: &[u32],
+    asn: &[u32],
+    preference: &[u32],
+    path: &[u32],
+    origin: &[u32],
+    med: &[u32],
+    nid: &[u32],
+    peer: &[u32],
+    early: &mut [u16],
+    late: &mut [u16],
+) -> usize
+    requires { ⌜ Blocks (counts .routers) (counts .prefixes) (now ids) (now distances) (now address) (now bits) (now routes) (columns (now router) (now asn) (now preference) (now path) (now origin) (now med) (now nid) (now peer)) (length (now early)) (length (now late)) ⌝ }
+    requires { ⌜ widest + widestBlock * counts .prefixes ≤ length (now out) ⌝ }
+    ensures { λ end. ⌜ Puts (was out) (is out) 0 end (headingLine (counts .routers) (counts .prefixes) ++ each (lentText (counts .routers) (was ids) (was distances) (was address) (was bits) (was routes) (columns (was router) (was asn) (was preference) (was path) (was origin) (was med) (was nid) (was peer))) (span 0 (counts .prefixes))) ⌝ }
+{
+    let head = lines::put_heading(out, 0, counts.routers, counts.prefixes);
+    put_prefixes(
+        out,
+        head,
+        counts.routers as usize,
+        counts.prefixes as usize,
+        ids,
+        distances,
+        address,
+        bits,
+        routes,
+        router,
+        asn,
+        preference,
+        path,
+        origin,
+        med,
+        nid,
+        peer,
+        early,
+        late,
+    )
+}
+
+// Reads a snapshot into tables and areas that are lent for it, and puts its page.
+fn rendered(
+    input: &[u8],
+    out: &mut [u8],
+    ids: &mut [u32],
+    distances: &mut [u32],
+    address: &mut [u32],
+    bits: &mut [u32],
+    routes: &mut [u32],
+    router: &mut [u32],
+    asn: &mut [u32],
+    preference: &mut [u32],
+    path: &mut [u32],
+    origin: &mut [u32],
+    mark: &mut [u32],
+    med: &mut [u32],
+    nid: &mut [u32],
+    peer: &mut [u32],
+    early: &mut [u16],
+    late: &mut [u16],
+) -> usize
+    requires { ⌜ Ready (tables (now ids) (now distances) (now address) (now bits) (now routes) (rowColumns (now router) (now asn) (now preference) (now path) (now origin) (now mark) (now med) (now nid) (now peer))) (now early) (now late) (now out) ⌝ }
+    ensures { λ end. ⌜ Puts (was out) (is out) 0 end (page (was input)) ⌝ }
+{
+    match reader::read_snapshot(
+        input,
+        ids,
+        distances,
+        address,
+        bits,
+        routes,
+        router,
+        asn,
+        preference,
+        path,
+        origin,
+        mark,
+        med,
+        nid,
+        peer,
+    ) {
+        Read::Refused(r, at) => lines::put_refused(out, 0, refusal::number(r), at),
+        Read::Accepted(counts) => put_tables(
+            out,
+            counts,
+            ids,
+            distances,
+            address,
+            bits,
+            routes,
+            router,
+            asn,
+            preference,
+            path,
+            origin,
+            med,
+            nid,
+            peer,
+            early,
+            late,
+        ),
+    }
 }

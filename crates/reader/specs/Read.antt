@@ -15,9 +15,10 @@ abbrev pub left : Answer → Tables → Tables
 left (accepted s) t = filled s t
 left (refused r at) t = t
 
--- ROOM first, where a table is shorter than its limit; then what the bytes are: the snapshot's counts, or a refusal and its place
+-- the answer: ROOM first, where a table is shorter than its limit; then the snapshot's counts, or a refusal and its place
 unfoldable pub readAnswer : List ℕ → Tables → Read
 readAnswer bs t = cond (anyOf (short t)) (Refused Room 0) (told (reading bs))
 
+-- the tables afterwards
 unfoldable pub readTables : List ℕ → Tables → Tables
 readTables bs t = cond (anyOf (short t)) t (left (reading bs) t)

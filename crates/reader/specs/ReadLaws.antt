@@ -4,7 +4,7 @@ use native.Mathlib.Omega.{arith}
 use mathlib.Core.Path.{_≡_, refl, sym, ap, ap₂, _∙_, subst, subst₂}
 use mathlib.Core.Bool.{Bool, true, false, cond}
 use mathlib.Core.List.{List, [], _∷_}
-use lib.ListN.{length, getD}
+use lib.ListN.{getD}
 use lib.Dec.{T, ltb, lt→ltb}
 use lib.Pow.{areBytes}
 use borrow.Author.Tests.{ltb-false}
@@ -12,14 +12,13 @@ use mir.Facts.{yes-and}
 use Rattle.refusal.specs.declared.Refusal.{Refusal}
 use Rattle.refusal.specs.declared.Refusal.the-variants.{Room}
 use Rattle.snapshot.specs.declared.Counts.{Counts}
-use Rattle.snapshot.specs.Limits.{mostRouters, roomDistances, mostPrefixes, mostRoutes}
+use Rattle.snapshot.specs.Limits.{mostPrefixes}
 use Rattle.snapshot.specs.Ranges.{anyOf}
 use Rattle.snapshot.specs.RangesLaws.{none-any, none-at}
-use Rattle.snapshot.specs.Format.{Snapshot, Valid, encode}
+use Rattle.snapshot.specs.Format.{Snapshot}
 use Rattle.snapshot.specs.Reading.{Answer, accepted, refused, reading}
 use Rattle.snapshot.specs.Theorems.{accepts}
-use Rattle.snapshot.specs.Tables.{Tables, short, filled, countsOf}
-use Rattle.scan.specs.declared.Read.{Read}
+use Rattle.snapshot.specs.Tables.{Tables, short, countsOf}
 use Rattle.scan.specs.declared.Read.the-variants as read
 use Rattle.scan.specs.Scan.{told}
 use Rattle.fill.specs.Fill.{Spans, WideTables, filledFrom}

@@ -1,6 +1,7 @@
 -- `fill_distances` meets its contract: by `Entries`, a law a turn. Assumes nothing.
 use borrow.Author.Needs.{needs}
 use native.Mathlib.Omega.{arith}
+use borrow.Author.Tests.{leb-true, leb-false}
 use Prim.Native.Nat.{_*_, _-_}
 use Rattle.snapshot.specs.Limits.{stride}
 use Rattle.fill.specs.StoresLaws.{Entries, entries-start, entries-long, entries-skip, entries-next, entries-end}
@@ -23,10 +24,10 @@ fill-distances-spec =
     (λ c. entries-start)
     (λ c. omega arith)
     (λ c. search needs)
-    (λ c. omega arith)
-    (λ c. let l : tie.In-loop Inv-loop μ-loop = search needs in entries-skip (l .before .loop .inv) (omega arith) (c .if1 .taken))
     (λ c. search needs)
-    (λ c κs. (search needs, omega arith, omega arith))
+    (λ c. omega arith)
+    (λ c. let l : tie.In-loop Inv-loop μ-loop = search needs in entries-skip (l .before .loop .inv) (omega arith) (leb-true _ _ (c .if1 .taken)))
+    (λ c κs. (search needs, omega arith, leb-false _ _ (c .if1 .left)))
     (λ c. search needs)
     (λ c. let l : tie.In-loop Inv-loop μ-loop = search needs in omega (arith, entries-long (l .before .loop .inv)))
     (λ c. omega arith)
@@ -34,6 +35,6 @@ fill-distances-spec =
     let l : tie.In-loop Inv-loop μ-loop = search needs in
     let e : tie.Else1 Inv-loop μ-loop = search needs in
     let d : tie.After-distance-in Inv-loop μ-loop = search needs in
-    entries-next (l .before .loop .inv) (omega arith) (l .loop-test .taken) (e .if1 .left) (d .distance-in .ensures))
+    entries-next (l .before .loop .inv) (omega arith) (l .loop-test .taken) (leb-false _ _ (e .if1 .left)) (d .distance-in .ensures))
     (λ c. entries-long (c .before .loop .inv))
     (λ c. entries-end (c .before .loop .inv) (c .loop-test .left)))
