@@ -5,7 +5,6 @@ ghost use Prim.Native.Nat.{_+_, _≤_};
 ghost use lib.ListN.{length};
 ghost use lib.Seq.{sets};
 ghost use Rattle.model.specs.Lent.{was, is};
-ghost use Rattle.wire.specs.Numbers.{bytesOf};
 ghost use Rattle.snapshot.specs.Records.{countForm, routerForm, distanceForm, prefixForm, routeForm, endForm, written, spread, size};
 ghost use Rattle.snapshot.specs.Format.{routeFields};
 ghost use Rattle.snapshot.specs.Plain.{routeIs};

@@ -2,8 +2,8 @@
 use Prim.Native.Nat.{ℕ, zero, suc, _+_, _-_, _^_, _≤_, _<_, zero-le}
 use native.Mathlib.Omega.{arith}
 use mathlib.Core.Path.{_≡_, refl, sym, ap, _∙_, subst}
-use mathlib.Core.Bool.{Bool, true, false, cond, not, _||_, true≢false, false≢true}
-use mathlib.Core.List.{List, [], _∷_}
+use mathlib.Core.Bool.{Bool, true, false, not, _||_, true≢false, false≢true}
+use mathlib.Core.List.{List, []}
 use lib.ListN.{length}
 use lib.Dec.{T, eqb, leb, ltb}
 use borrow.Author.Count.{below-none, below-more}
@@ -11,7 +11,7 @@ use borrow.Author.Tests.{eq-eqb, ne-eqb, eqb-true, eqb-false, le-ltb, ltb-false,
 use Rattle.model.specs.Rows.{some, table, column}
 use Rattle.snapshot.specs.Ranges.{none, anyOf, countTests, idTests, prefixTests, routeTests, rises, risesRoute}
 use Rattle.snapshot.specs.RangesLaws.{none-any, none-at}
-use Rattle.snapshot.specs.Format.{GoodId, GoodRoute, GoodPrefix, Each, latest, routeFields}
+use Rattle.snapshot.specs.Format.{GoodId, GoodRoute, Each, latest, routeFields}
 use Rattle.snapshot.specs.Records.{routeForm, Fits}
 use Rattle.snapshot.specs.Limits.{mostRouters, mostPrefixes, mostInPrefix, mostRoutes, lastAsn, longestPath, lastOrigin}
 use Rattle.snapshot.specs.Tables.{Columns, Tables}
