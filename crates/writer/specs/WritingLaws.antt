@@ -31,8 +31,8 @@ use Rattle.records.specs.PuttingLaws.{puts-append}
 use Rattle.writer.specs.Writing.{networkBytes, pairCount, sizeOf, recordsOf, wrote, refuses, Writes, room, unheld, full, done}
 
 -- the pairs of at most 64 routers
-pub pairs-most : (n : ℕ) → n ≤ mostRouters → pairCount n ≤ 4032
-pairs-most n h = mul-le-mul h (let l : n - 1 ≤ 63 = omega arith in l)
+pub pairs-most : (n : ℕ) → n ≤ mostRouters → pairCount n ≤ pairCount mostRouters
+pairs-most n h = mul-le-mul h (let l : n - 1 ≤ mostRouters - 1 = omega arith in l)
 
 pub routers-range : {counts : Counts} → InRange counts → (1 ≤ counts .routers) × (counts .routers ≤ mostRouters)
 routers-range {counts} range = count-range (counts .routers) (range .routers)
