@@ -8,9 +8,7 @@ use lib.Dec.{ltb, eqb}
 use Rattle.refusal.specs.declared.Refusal.the-variants.{Cut, Kind, Place, Full, Field, Order, Tail}
 use Rattle.snapshot.specs.declared.Route.{Route}
 use Rattle.model.specs.Decision as model
-use Rattle.snapshot.specs.Limits.{mostPrefixes, mostInPrefix, mostRoutes}
 use Rattle.snapshot.specs.Ranges.{none, prefixTests, routeTests, rises, risesRoute}
-use Rattle.snapshot.specs.Plain.{routeIs}
 use Rattle.snapshot.specs.Records.{Form, forms, ofKind, known, sum, size, prefixForm, routeForm, valuesAt}
 use Rattle.snapshot.specs.Format.{Pair, Snapshot, routesIn, latest, Check, _else_}
 use Rattle.snapshot.specs.Reading.{openRoutes}
@@ -33,6 +31,7 @@ finding ((b else r) ∷ checks) = cond b (finding checks) (Fault r)
 abbrev pub bodyOf : ℕ → Body
 bodyOf k = ofKind forms k (λ f. Bytes (sum (f .widths))) (Refused Kind)
 
+-- the length of the body of a kind, 0 where it is not known
 abbrev pub bodyLength : ℕ → ℕ
 bodyLength k = ofKind forms k (λ f. sum (f .widths)) 0
 
@@ -52,10 +51,11 @@ openingChecks bs at due astray full =
 abbrev pub begin : Cursor
 begin = record { at = 0; records = 0 }
 
--- the cursor behind a record of so many bytes, and of a form
+-- the cursor behind a record of so many bytes
 abbrev pub behind : Cursor → ℕ → Cursor
 behind c n = record { at = c .at + n; records = c .records + 1 }
 
+-- the cursor behind a record of a form
 abbrev pub after : Cursor → Form → Cursor
 after c f = behind c (size f)
 
@@ -67,23 +67,25 @@ due from to = record { from = from; to = to }
 abbrev pub lateBehind : ℕ → ℕ → ℕ → ℕ → ℕ → Bool
 lateBehind before a b c d = not (eqb before 0) && not (rises a b c d)
 
--- the checks of a prefix's and of a route's values, by what is known of those before it
+-- the checks of a prefix's values, by what is known of those before it
 abbrev pub prefixFaults : Sofar → ℕ → ℕ → List Check
 prefixFaults k address bits =
     (none (prefixTests address bits) else Field)
     ∷ (not (lateBehind (k .prefixes) (k .address) (k .bits) address bits) else Order)
     ∷ []
 
+-- the checks of a route's values, by what is known of those before it
 abbrev pub routeFaults : Sofar → model.Route → List Check
 routeFaults k r =
     (none (routeTests (k .routers) r) else Field)
     ∷ (not (lateBehind (k .inside) (k .router) (k .peer) (r .router) (r .peer)) else Order)
     ∷ []
 
--- the prefix, and the route, of the record at a place
+-- the prefix of the record at a place
 abbrev pub networkAt : List ℕ → ℕ → Network
 networkAt bs at = let v = valuesAt prefixForm bs at in record { address = getD v 0 0; bits = getD v 1 0 }
 
+-- the route of the record at a place
 abbrev pub routeAt : List ℕ → ℕ → Route
 routeAt bs at = let v = valuesAt routeForm bs at in record {
   router = getD v 0 0;

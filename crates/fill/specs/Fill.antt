@@ -9,7 +9,7 @@ use Rattle.wire.specs.Numbers.{numberAt}
 use Rattle.model.specs.Rows.{table}
 use Rattle.model.specs.Decision.{Route}
 use Rattle.snapshot.specs.Limits.{mostRouters, stride, roomDistances, mostPrefixes, mostRoutes}
-use Rattle.snapshot.specs.Records.{countForm, routerForm, distanceForm, prefixForm, routeForm, size, valuesAt}
+use Rattle.snapshot.specs.Records.{prefixForm, routeForm, size, valuesAt}
 use Rattle.snapshot.specs.Format.{Prefix, pairsBefore}
 use Rattle.snapshot.specs.Reading.{routeOf}
 use Rattle.snapshot.specs.Tables.{Columns, Tables, used, putRoutes, allRoutes}
@@ -63,6 +63,7 @@ pub record Lists : Type 0 where
   pub routes : List ℕ
   pub rows : Columns
 
+-- the columns of these lists
 abbrev pub lists : List ℕ → List ℕ → List ℕ → Columns → Lists
 lists address bits routes rows = record { address = address; bits = bits; routes = routes; rows = rows }
 

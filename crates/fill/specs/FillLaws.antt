@@ -3,32 +3,31 @@ use Prim.Native.Nat.{ℕ, zero, suc, _+_, _-_, _*_, _/_, _%_, _^_, _≤_, _<_}
 use native.Mathlib.Nat.{not-suc-le-zero, mul-le-mul}
 use native.Mathlib.Decide.{ℕ-discrete}
 use native.Mathlib.Omega.{arith}
-use mathlib.Core.Path.{_≡_, refl, sym, ap, ap₂, _∙_, subst}
+use mathlib.Core.Path.{_≡_, refl, sym, ap, ap₂, _∙_}
 use mathlib.Core.Bool.{Bool, true, false, cond, _&&_}
-use mathlib.Core.List.{List, [], _∷_, _++_, map, append-assoc, append-nil}
-use lib.ListN.{length, getD, take, drop, length-append, length-drop}
-use lib.Seq.{drop-at, drop-drop, drop-cons, ext-getD, sets}
-use lib.Dec.{T, leb, ltb, eqb, leb→le, ltb→lt}
-use borrow.Author.Tests.{le-leb, eq-eqb, ne-eqb, ltb-true, ltb-false}
-use mir.Facts.{and-yes}
+use mathlib.Core.List.{List, [], _∷_, _++_, append-assoc}
+use lib.ListN.{length, getD, drop, length-append, length-drop}
+use lib.Seq.{drop-at, drop-drop, drop-cons, ext-getD}
+use lib.Dec.{leb, ltb, eqb}
+use borrow.Author.Tests.{le-leb, eq-eqb, ltb-true, ltb-false}
 use Rattle.wire.specs.Numbers.{numberAt}
 use Rattle.wire.specs.NumbersLaws.{number-drop}
 use Rattle.model.specs.Rows.{table}
 use Rattle.model.specs.LoopLaws.{table-length, table-at, table-same}
 use Rattle.model.specs.Decision.{Route}
 use Rattle.snapshot.specs.Limits.{mostRouters, stride, mostRoutes, mostBits, farthest}
-use Rattle.snapshot.specs.Ranges.{none, distanceTests, prefixTests}
+use Rattle.snapshot.specs.Ranges.{distanceTests, prefixTests}
 use Rattle.snapshot.specs.RangesLaws.{none-at}
-use Rattle.snapshot.specs.Records.{Form, countForm, routerForm, distanceForm, prefixForm, routeForm, endForm, written, size, Fits, kind, values, valuesAt}
-use Rattle.snapshot.specs.RecordsLaws.{values-at, values-written, length-written}
+use Rattle.snapshot.specs.Records.{countForm, routerForm, distanceForm, prefixForm, routeForm, endForm, written, size, Fits, kind, values, valuesAt}
+use Rattle.snapshot.specs.RecordsLaws.{values-at, values-written}
 use Rattle.snapshot.specs.Format.{Prefix, Snapshot, Pair, pairs, pairsBefore, distance, Each, GoodId, GoodDistance, GoodRoute, GoodPrefix, Valid, records, routesIn, routesBytes, routersBytes, distancesBytes, prefixesBytes, routeFields, encode}
 use Rattle.snapshot.specs.Reading.{routeOf}
 use Rattle.snapshot.specs.ChecksLaws.{count-range}
 use Rattle.snapshot.specs.PairsLaws.{pairs-length, pairs-of, OfRouters, pair-of}
 use Rattle.snapshot.specs.PlaceLaws.{kind-at}
-use Rattle.snapshot.specs.WrittenLaws.{routers-size, distances-size, routes-size, prefixes-size, encode-size}
+use Rattle.snapshot.specs.WrittenLaws.{routers-size, distances-size, routes-size, encode-size}
 use Rattle.snapshot.specs.Tables.{Tables, filled, used, putDistances}
-use Rattle.fill.specs.Fill.{idsIn, distanceIn, entryIn, behindDistances, isRoute, routesFrom, prefixWith, prefixesFrom, filledFrom, Spans}
+use Rattle.fill.specs.Fill.{idsIn, distanceIn, entryIn, behindDistances, routesFrom, prefixWith, prefixesFrom, filledFrom, Spans}
 
 -- each member of a list is good
 each-at : {A : Type 0} (good : List A → A → Type 0) (before xs : List A) (d : A) → Each good before xs → (i : ℕ) → i < length xs → (front : List A) × good front (getD xs i d)

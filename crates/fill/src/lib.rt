@@ -68,16 +68,19 @@ pub fn fill_distances(input: &[u8], n: usize, distances: &mut [u32])
     requires { ⌜ Spans (now input) n × (roomDistances ≤ length (now distances)) ⌝ }
     ensures { λ _. ⌜ is distances ≡ table (length (was distances)) (entryIn (was input) n (was distances)) ⌝ }
 {
-    let end = n * snapshot::STRIDE;
+    let stride = snapshot::STRIDE;
+    let end = n * stride;
     let mut k = 0;
     while k < end {
         let next = k + 1;
-        let to = k % snapshot::STRIDE;
-        if n <= to {
+        let from = k / stride;
+        let to = k % stride;
+        let unused = n <= to;
+        if unused {
             k = next;
             continue;
         }
-        distances[k] = distance_in(input, n, k / snapshot::STRIDE, to);
+        distances[k] = distance_in(input, n, from, to);
         k = next;
     }
 }

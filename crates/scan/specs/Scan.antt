@@ -71,14 +71,16 @@ pub record Items (bs : List ℕ) (c : Cursor) (k : Sofar) : Type 0 where
   pub count : c .records ≡ records s
   pub low : c .records ≤ c .at
 
--- what to know with no prefix read, with one more prefix, and with one more route
+-- what to know with no prefix read
 abbrev pub nothing : ℕ → Sofar
 nothing n = record { routers = n; prefixes = 0; routes = 0; inside = 0; address = 0; bits = 0; router = 0; peer = 0 }
 
+-- what to know with one more prefix
 abbrev pub morePrefix : Sofar → Network → Sofar
 morePrefix k p =
     record { routers = k .routers; prefixes = k .prefixes + 1; routes = k .routes; inside = 0; address = p .address; bits = p .bits; router = 0; peer = 0 }
 
+-- what to know with one more route
 abbrev pub moreRoute : Sofar → Route → Sofar
 moreRoute k r =
     record { routers = k .routers; prefixes = k .prefixes; routes = k .routes + 1; inside = k .inside + 1; address = k .address; bits = k .bits; router = r .router; peer = r .peer }

@@ -1,5 +1,5 @@
 -- How the first pass goes on: one law for each turn of its loops and each way out of them.
-use Prim.Native.Nat.{ℕ, zero, suc, _+_, _-_, _≤_, _<_, zero-le}
+use Prim.Native.Nat.{ℕ, suc, _+_, _-_, _≤_, _<_, zero-le}
 use native.Mathlib.Numerals.{add-one}
 use native.Mathlib.Decide.{decLe}
 use native.Mathlib.Omega.{arith}
@@ -7,9 +7,9 @@ use mathlib.Core.Path.{_≡_, refl, sym, ap, ap₂, _∙_, subst}
 use mathlib.Core.Logic.{_≢_}
 use mathlib.Core.Bool.{Bool, true, false, cond, not, _&&_}
 use mathlib.Core.List.{List, [], _∷_, _++_}
-use lib.ListN.{length, getD, take, drop, set, length-set, length-drop, length-append}
+use lib.ListN.{length, getD, take, drop, set, length-set, length-drop}
 use lib.Seq.{take-suc-set, length-take-le}
-use lib.Dec.{T, leb, ltb, eqb, leb→le, ltb→lt}
+use lib.Dec.{T, leb, eqb, leb→le, ltb→lt}
 use borrow.Author.Tests.{ne-eqb, lt-ltb, le-ltb}
 use Rattle.refusal.specs.declared.Refusal.{Refusal}
 use Rattle.refusal.specs.declared.Refusal.the-variants.{Tail}
@@ -18,10 +18,10 @@ use Rattle.snapshot.specs.declared.Route.{Route}
 use Rattle.snapshot.specs.Limits.{mostRouters, mostPrefixes, mostInPrefix, mostRoutes}
 use Rattle.snapshot.specs.Ranges.{rises, risesRoute}
 use Rattle.snapshot.specs.Plain.{routeIs}
-use Rattle.snapshot.specs.Records.{Form, countForm, routerForm, distanceForm, prefixForm, routeForm, endForm, size, valuesAt}
+use Rattle.snapshot.specs.Records.{countForm, routerForm, distanceForm, prefixForm, routeForm, endForm, size, valuesAt}
 use Rattle.snapshot.specs.Format.{Snapshot, Prefix, Pair, pairs, row, rows, records, routesIn, latest, Check, judged, Holds}
-use Rattle.snapshot.specs.Reading.{Answer, accepted, refused, unless, recordChecks, prefixExtra, prefixValues, prefixRecord, routeExtra, routeValues, routeRecord, endRecord, openRoutes, addRoute, withPrefixes, prefixOf, routeOf, tail, items, distanceRecord, distances, routerRecord, routers, countValues, countRecord, reading}
-use Rattle.snapshot.specs.ChecksLaws.{judged-cases, Passed, passed, count-range, length-snoc, latest-snoc, routesIn-append, routesIn-add, length-add, some-prefix}
+use Rattle.snapshot.specs.Reading.{Answer, accepted, refused, unless, prefixExtra, prefixValues, prefixRecord, routeExtra, routeValues, routeRecord, endRecord, openRoutes, addRoute, withPrefixes, prefixOf, routeOf, tail, items, distanceRecord, distances, routerRecord, routers, countValues, countRecord, reading}
+use Rattle.snapshot.specs.ChecksLaws.{judged-cases, passed, count-range, length-snoc, latest-snoc, routesIn-append, routesIn-add, length-add, some-prefix}
 use Rattle.snapshot.specs.PlaceLaws.{reading-count, routers-one, routers-none, distances-one, distances-none, items-one-prefix, items-one-route, items-last, tail-none, tail-some}
 use Rattle.snapshot.specs.PairsLaws.{due-row, due-equal, due-other, due-row-end, due-end}
 use Rattle.cursor.specs.declared.Cursor.{Cursor}

@@ -3,9 +3,9 @@ use borrow.Author.Needs.{needs}
 use native.Mathlib.Omega.{arith}
 use denote.Ref.{now}
 use mathlib.Core.Path.{ap, _∙_}
-use Prim.Native.Nat.{ℕ, _+_, _-_, _*_, _≤_}
+use Prim.Native.Nat.{_+_, _-_, _*_, _≤_}
 use lib.ListN.{length, set}
-use Rattle.snapshot.specs.Limits.{mostPrefixes, mostRoutes}
+use Rattle.snapshot.specs.Limits.{mostRoutes}
 use Rattle.snapshot.specs.Tables.{columns}
 use Rattle.cursor.specs.declared.Network.{Network}
 use Rattle.fill.specs.Fill.{lists}

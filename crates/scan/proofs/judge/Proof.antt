@@ -4,7 +4,7 @@ use denote.Ref.{now}
 use mathlib.Core.Path.{sym, ap, _∙_}
 use mathlib.Core.Path.{subst}
 use mathlib.Core.List.{[]}
-use lib.ListN.{replicate, length-replicate}
+use lib.ListN.{replicate}
 use lib.Dec.{lit≤}
 use Rattle.snapshot.specs.Limits.{mostRouters}
 use Rattle.snapshot.specs.Format.{pairs}

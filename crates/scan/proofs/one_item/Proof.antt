@@ -4,7 +4,6 @@ use denote.Ref.{now}
 use mathlib.Core.Path.{_≡_, sym, _∙_}
 use mathlib.Core.Path.{subst}
 use lib.ListN.{getD}
-use Rattle.cursor.specs.declared.Sofar.{Sofar}
 use Rattle.scan.specs.Scan.{Items}
 use Rattle.scan.specs.ScanLaws.{prefix-stop, prefix-next, route-stop, route-next}
 use Rattle.scan.proofs.one_item.Statement.{statement}

@@ -3,9 +3,9 @@ use borrow.Author.Needs.{needs}
 use native.Mathlib.Omega.{arith}
 use denote.Ref.{now}
 use mathlib.Core.Path.{_≡_, refl, sym, ap, _∙_}
-use Prim.Native.Nat.{ℕ, _+_, _<_}
+use Prim.Native.Nat.{_+_, _<_}
 use mathlib.Core.Bool.{false}
-use lib.ListN.{length, getD}
+use lib.ListN.{length}
 use Rattle.cursor.specs.declared.Finding.the-variants.{Clear}
 use Rattle.cursor.specs.declared.PrefixStep.the-variants.{Took, Refused}
 use Rattle.cursor.specs.StepsLaws.{opened, at-opening, at-values, at-end}
