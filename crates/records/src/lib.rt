@@ -5,11 +5,23 @@ ghost use Prim.Native.Nat.{_+_, _≤_};
 ghost use lib.ListN.{length};
 ghost use lib.Seq.{sets};
 ghost use Rattle.model.specs.Lent.{was, is};
-ghost use Rattle.wire.specs.Numbers.{bytesOf};
 ghost use Rattle.snapshot.specs.Records.{countForm, routerForm, distanceForm, prefixForm, routeForm, endForm, written, spread, size};
 ghost use Rattle.snapshot.specs.Format.{routeFields};
 ghost use Rattle.snapshot.specs.Plain.{routeIs};
 ghost use Rattle.records.specs.Putting.{frontForm, frontFields, backWidths, backFields};
+
+// The bytes of a record of each kind, its kind byte among them.
+pub const COUNT_SIZE: usize = 2;
+
+pub const ROUTER_SIZE: usize = 6;
+
+pub const DISTANCE_SIZE: usize = 7;
+
+pub const PREFIX_SIZE: usize = 6;
+
+pub const ROUTE_SIZE: usize = 24;
+
+pub const END_SIZE: usize = 5;
 
 // The number of routers.
 pub fn put_count(out: &mut [u8], at: usize, n: u32)

@@ -1,7 +1,7 @@
 -- Tables that a snapshot was filled into hold it.
-use Prim.Native.Nat.{ℕ, _/_, _%_, _≤_, _<_}
+use Prim.Native.Nat.{ℕ, _/_, _%_, _≤_}
 use native.Mathlib.Omega.{arith}
-use mathlib.Core.Path.{_≡_, refl, sym, ap, _∙_, subst}
+use mathlib.Core.Path.{_≡_, refl, ap, _∙_}
 use mathlib.Core.Bool.{Bool, true, false, cond}
 use mathlib.Core.List.{List, map}
 use lib.ListN.{length, getD, length-map}
@@ -9,8 +9,8 @@ use lib.Seq.{sets, length-sets}
 use Rattle.model.specs.Rows.{table}
 use Rattle.model.specs.Decision.{Route}
 use Rattle.model.specs.LoopLaws.{table-length, table-at, table-same}
-use Rattle.snapshot.specs.Limits.{mostRouters, stride, mostPrefixes, mostRoutes}
-use Rattle.snapshot.specs.Format.{Prefix, Snapshot, distance, Valid}
+use Rattle.snapshot.specs.Limits.{stride, mostRoutes}
+use Rattle.snapshot.specs.Format.{Snapshot, distance, Valid}
 use Rattle.snapshot.specs.Tables.{Columns, Tables, used, putDistances, putRoutes, allRoutes, filled, countsOf, Held}
 use Rattle.snapshot.specs.ChecksLaws.{count-range}
 use Rattle.tables.specs.Judging.{Room, RoomRows}

@@ -1,27 +1,27 @@
 -- What counts and tables hold: at most one snapshot, which is `snapshotOf`, and where its parts stand.
 use Prim.Native.Nat.{ℕ, zero, suc, _+_, _-_, _*_, _/_, _%_, _≤_, _<_}
-use native.Mathlib.Nat.{not-suc-le-zero, div-add-mod'}
+use native.Mathlib.Nat.{not-suc-le-zero}
 use native.Mathlib.Omega.{arith}
 use mathlib.Core.Path.{_≡_, refl, sym, ap, _∙_, subst}
 use mathlib.Core.Logic.{_≢_}
-use mathlib.Core.Bool.{Bool, true, false, cond, _&&_}
+use mathlib.Core.Bool.{Bool, true, cond}
 use mathlib.Core.List.{List, [], _∷_, _++_, map, append-assoc}
-use lib.ListN.{length, getD, take, drop, length-map, length-append, List·getD-append}
+use lib.ListN.{length, getD, take, length-map, length-append, List·getD-append}
 use lib.Seq.{sets, ext-getD, take-suc, getD-append-add}
-use lib.Dec.{T, eqb}
+use lib.Dec.{eqb}
 use lib.Arith.{digits-lt, digits-div, digits-mod}
 use borrow.Author.Tests.{lt-ltb, eq-eqb, ne-eqb, eqb-true, eqb-false}
-use Rattle.model.specs.Rows.{span, table, column}
+use Rattle.model.specs.Rows.{table, column}
 use Rattle.model.specs.Decision.{Route}
-use Rattle.model.specs.LoopLaws.{table-length, table-at, table-same, by}
+use Rattle.model.specs.LoopLaws.{table-at, table-same, by}
 use Rattle.snapshot.specs.declared.Counts.{Counts}
 use Rattle.snapshot.specs.Limits.{mostRouters, stride, mostPrefixes, mostRoutes}
 use Rattle.snapshot.specs.Format.{Prefix, Snapshot, Pair, row, rows, pairs, pairsBefore, distance, routesIn, Valid}
-use Rattle.snapshot.specs.Tables.{Columns, Tables, used, putDistances, allRoutes, filled, countsOf, Held, routesOf}
+use Rattle.snapshot.specs.Tables.{Columns, Tables, used, putDistances, allRoutes, filled, Held}
 use Rattle.snapshot.specs.ChecksLaws.{count-range, routesIn-append}
 use Rattle.snapshot.specs.PairsLaws.{row-equal, row-other, pairs-length, pair-at, pair-of}
-use Rattle.tables.specs.Judging.{Room, RoomRows, routeAt, start, routesAt, prefixAt, cell, snapshotOf, Below}
-use Rattle.tables.specs.ListsLaws.{table-append, table-snoc, as-table, map-at, table-part, table-take, stands, stays}
+use Rattle.tables.specs.Judging.{Room, routeAt, start, routesAt, prefixAt, cell, snapshotOf, Below}
+use Rattle.tables.specs.ListsLaws.{as-table, map-at, stands}
 
 -- ---- the pairs of n routers
 

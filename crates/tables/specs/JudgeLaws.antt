@@ -1,29 +1,29 @@
 -- Laws by which the loops of judging are proved: what a test that passed, or failed, says of the part that it judges.
 use Prim.Native.Nat.{ℕ, zero, suc, _+_, _-_, _^_, _≤_, _<_, zero-le}
 use native.Mathlib.Omega.{arith}
+use native.Mathlib.Nat.{le-refl}
+use native.Mathlib.Numerals.{add-one}
 use mathlib.Core.Path.{_≡_, refl, sym, ap, _∙_, subst}
-use mathlib.Core.Bool.{Bool, true, false, cond, not, _||_, true≢false, false≢true}
-use mathlib.Core.List.{List, [], _∷_}
+use mathlib.Core.Bool.{Bool, true, false, not, _||_, true≢false, false≢true}
+use mathlib.Core.List.{List, []}
+use mathlib.Core.Logic.{_⊎_, inl, inr}
 use lib.ListN.{length}
 use lib.Dec.{T, eqb, leb, ltb}
 use borrow.Author.Count.{below-none, below-more}
 use borrow.Author.Tests.{eq-eqb, ne-eqb, eqb-true, eqb-false, le-ltb, ltb-false, leb-true, leb-false, not-true, not-false}
 use Rattle.model.specs.Rows.{some, table, column}
+use Rattle.model.specs.Decision.{Route}
+use Rattle.model.specs.LoopLaws.{table-length, by}
+use Rattle.snapshot.specs.declared.Counts.{Counts}
+use Rattle.snapshot.specs.Limits.{mostRouters, mostPrefixes, mostInPrefix, mostRoutes, lastAsn, longestPath, lastOrigin}
 use Rattle.snapshot.specs.Ranges.{none, anyOf, countTests, idTests, prefixTests, routeTests, rises, risesRoute}
 use Rattle.snapshot.specs.RangesLaws.{none-any, none-at}
-use Rattle.snapshot.specs.Format.{GoodId, GoodRoute, GoodPrefix, Each, latest, routeFields}
 use Rattle.snapshot.specs.Records.{routeForm, Fits}
-use Rattle.snapshot.specs.Limits.{mostRouters, mostPrefixes, mostInPrefix, mostRoutes, lastAsn, longestPath, lastOrigin}
+use Rattle.snapshot.specs.Format.{GoodId, GoodRoute, Each, latest, routeFields}
 use Rattle.snapshot.specs.Tables.{Columns, Tables}
-use Rattle.snapshot.specs.declared.Counts.{Counts}
 use Rattle.snapshot.specs.ChecksLaws.{count-range}
-use Rattle.model.specs.LoopLaws.{table-length, by}
-use native.Mathlib.Nat.{le-refl}
-use native.Mathlib.Numerals.{add-one}
-use mathlib.Core.Logic.{_⊎_, inl, inr}
-use Rattle.model.specs.Decision.{Route}
-use Rattle.tables.specs.ListsLaws.{latest-table, each-below, below-each}
 use Rattle.tables.specs.Judging.{RoomPrefixes, prefixTables, routeAt, start, routesAt, prefixAt, cell, cellTests, lateAt, CellGood, RouteGood, PrefixGood, Below, InRange, Totalled, Decides}
+use Rattle.tables.specs.ListsLaws.{latest-table, each-below, below-each}
 
 -- ---- a loop that judges each number below n in turn
 

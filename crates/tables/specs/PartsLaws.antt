@@ -1,27 +1,26 @@
 -- Counts and tables hold a snapshot exactly when each part obeys.
-use Prim.Native.Nat.{ℕ, zero, suc, _+_, _-_, _*_, _/_, _%_, _≤_, _<_}
+use Prim.Native.Nat.{ℕ, zero, suc, _+_, _/_, _%_, _≤_, _<_}
 use native.Mathlib.Nat.{div-add-mod'}
 use native.Mathlib.Omega.{arith}
 use mathlib.Core.Path.{_≡_, refl, sym, ap, _∙_, subst}
-use mathlib.Core.Logic.{_≢_}
-use mathlib.Core.Bool.{Bool, true, false, cond, not, _&&_, true≢false, false≢true}
+use mathlib.Core.Bool.{Bool, true, false, cond, not, _&&_, false≢true}
 use mathlib.Core.List.{List, [], _∷_, _++_, map, map-map, append-nil}
 use lib.ListN.{length, getD, length-map}
 use lib.Seq.{sets, ext-getD}
 use lib.Dec.{T, eqb, ltb}
-use borrow.Author.Tests.{ltb-true, eqb-true, eqb-false, eq-eqb, ne-eqb, not-false}
+use borrow.Author.Tests.{ltb-true, eqb-true, eqb-false, eq-eqb, not-false}
 use Rattle.model.specs.Rows.{span, table, column}
 use Rattle.model.specs.Decision.{Route}
 use Rattle.model.specs.LoopLaws.{table-length, table-at, table-same, by, both}
 use Rattle.snapshot.specs.declared.Counts.{Counts}
-use Rattle.snapshot.specs.Limits.{mostRouters, stride, mostPrefixes, mostRoutes}
-use Rattle.snapshot.specs.Ranges.{none, distanceTests, countTests}
+use Rattle.snapshot.specs.Limits.{stride, mostRoutes}
+use Rattle.snapshot.specs.Ranges.{none, distanceTests}
 use Rattle.snapshot.specs.RangesLaws.{none-cons, none-split}
-use Rattle.snapshot.specs.Format.{Prefix, Snapshot, Pair, pairs, pairsBefore, distance, routesIn, Each, GoodId, GoodDistance, GoodPrefix, Valid}
-use Rattle.snapshot.specs.Tables.{Columns, Tables, columns, tables, used, putDistances, putRoutes, allRoutes, filled, countsOf, Held}
+use Rattle.snapshot.specs.Format.{Snapshot, Pair, pairs, pairsBefore, distance, routesIn, Each, GoodId, GoodDistance, GoodPrefix, Valid}
+use Rattle.snapshot.specs.Tables.{Columns, Tables, columns, tables, used, putDistances, putRoutes, allRoutes, Held}
 use Rattle.snapshot.specs.ChecksLaws.{count-range}
 use Rattle.snapshot.specs.PairsLaws.{pairs-length, pair-of}
-use Rattle.tables.specs.Judging.{Room, RoomRows, routeAt, start, routesAt, prefixAt, cell, snapshotOf, Below, cellTests, CellGood, IdGood, PrefixGood, InRange, Totalled, Parts, Decides, Holding, Judged}
+use Rattle.tables.specs.Judging.{Room, RoomRows, routeAt, start, prefixAt, cell, snapshotOf, Below, cellTests, CellGood, IdGood, InRange, Totalled, Parts, Decides, Holding, Judged}
 use Rattle.tables.specs.ListsLaws.{table-append, table-snoc, as-table, map-at, each-below, below-each, stays}
 use Rattle.tables.specs.HeldLaws.{pair-two, no-pair, cells, cells-at, distance-apart, distance-equal, length-all, all-append, held-is, cell-is, n-is}
 

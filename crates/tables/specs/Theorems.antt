@@ -1,16 +1,16 @@
 -- What is proved of counts and tables that hold a snapshot: they hold one, its parts stand in their rows, and its prefixes are sound.
 use Prim.Native.Nat.{ℕ, suc, _+_, _≤_, _<_}
 use native.Mathlib.Omega.{arith}
-use mathlib.Core.Path.{_≡_, refl, sym, ap, _∙_, subst, fun-ext}
+use mathlib.Core.Path.{_≡_, sym, ap, _∙_, subst, fun-ext}
 use mathlib.Core.Logic.{_⊎_, inl, inr, ⊎-elim}
-use mathlib.Core.Bool.{Bool, true, false, _||_, _&&_, not}
+use mathlib.Core.Bool.{Bool, false, _&&_}
 use mathlib.Core.List.{List, [], _∷_, map, map-map}
-use lib.ListN.{length, getD, take, drop, length-map}
+use lib.ListN.{length, getD, take, drop}
 use lib.Dec.{T, eqb, ltb}
 use borrow.Author.Tests.{leb-false, ltb-false, le-ltb, eq-eqb, eqb-false}
 use mir.Facts.{or-yes, and-yes, ltb-yes, eqb-yes}
 use Rattle.model.specs.Rows.{span, table, column, some}
-use Rattle.model.specs.Decision.{Route, Mesh}
+use Rattle.model.specs.Decision.{Route}
 use Rattle.model.specs.Stability.{Sound}
 use Rattle.model.specs.SoundLaws.{Rising, rising-sound}
 use Rattle.model.specs.LoopLaws.{table-length, table-at}
@@ -18,10 +18,10 @@ use Rattle.snapshot.specs.declared.Counts.{Counts}
 use Rattle.snapshot.specs.Limits.{mostRouters, mostInPrefix, mostRoutes}
 use Rattle.snapshot.specs.Ranges.{none, routeTests, rises, risesRoute}
 use Rattle.snapshot.specs.RangesLaws.{none-at, none-cons}
-use Rattle.snapshot.specs.Format.{Prefix, Snapshot, Each, GoodId, GoodRoute, GoodPrefix, latest, distance, Valid}
+use Rattle.snapshot.specs.Format.{Prefix, Snapshot, Each, GoodId, GoodRoute, GoodPrefix, distance, Valid}
 use Rattle.snapshot.specs.Tables.{Tables, short, Held, routesOf, mesh}
 use Rattle.snapshot.specs.ChecksLaws.{count-range}
-use Rattle.tables.specs.Judging.{Room, routeAt, start, routesAt, prefixAt, cell, snapshotOf, Holding}
+use Rattle.tables.specs.Judging.{Room, routeAt, start, routesAt, prefixAt, cell}
 use Rattle.tables.specs.ListsLaws.{map-at, as-table, each-below, latest-table, table-none, table-part, table-take}
 use Rattle.tables.specs.HeldLaws.{no-prefix, no-route, few, n-is, cell-is, held-is}
 use Rattle.tables.specs.PartsLaws.{and-zero, holding-parts}

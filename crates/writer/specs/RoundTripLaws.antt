@@ -1,15 +1,14 @@
 -- Writing determines everything, and is the other way of reading: read and written again gives the same bytes, written and read again
 -- the same used rows. Stated of the promises of the calls, for any results that meet them.
-use Prim.Native.Nat.{ℕ, _+_, _≤_, _<_}
+use Prim.Native.Nat.{ℕ, _≤_}
 use native.Mathlib.Omega.{arith}
 use mathlib.Core.Path.{_≡_, refl, sym, ap, ap₂, _∙_, subst}
-use mathlib.Core.List.{List, _++_}
+use mathlib.Core.List.{List}
 use lib.ListN.{length, take, drop}
 use lib.Dec.{T}
 use lib.Seq.{sets, take-append-seam}
 use lib.Pow.{areBytes}
 use mir.Facts.{T-not}
-use Rattle.refusal.specs.declared.Refusal.{Refusal}
 use Rattle.refusal.specs.Numbers.{numberOf}
 use Rattle.refusal.specs.NumbersLaws.{number-tells, number-range}
 use Rattle.snapshot.specs.declared.Counts.{Counts}

@@ -1,18 +1,17 @@
 -- The bytes of each section, taken off one by one from the front, as the loops put them.
-use Prim.Native.Nat.{ℕ, zero, suc, _+_, _-_, _*_, _≤_, _<_, zero-le}
+use Prim.Native.Nat.{ℕ, suc, _+_, _-_, _≤_, _<_, zero-le}
 use native.Mathlib.Nat.{sub-zero}
 use native.Mathlib.Numerals.{add-one}
 use native.Mathlib.Omega.{arith}
 use mathlib.Core.Path.{_≡_, refl, sym, ap, _∙_, subst}
 use mathlib.Core.Logic.{_≢_}
-use mathlib.Core.List.{List, [], _∷_, _++_, map, append-assoc, append-nil}
+use mathlib.Core.List.{List, [], _∷_, _++_, map, append-assoc}
 use lib.ListN.{length}
 use lib.Seq.{sets, length-sets}
-use Rattle.model.specs.Rows.{span, table, column}
-use Rattle.model.specs.Decision.{Route}
+use Rattle.model.specs.Rows.{table, column}
 use Rattle.model.specs.LoopLaws.{rest, rest-next, rest-end}
 use Rattle.snapshot.specs.Records.{routerForm, distanceForm, prefixForm, routeForm, written}
-use Rattle.snapshot.specs.Format.{Prefix, Pair, row, rows, pairs, routersBytes, distancesBytes, routesBytes, prefixesBytes, routeFields}
+use Rattle.snapshot.specs.Format.{Pair, row, rows, routersBytes, routesBytes, prefixesBytes, routeFields}
 use Rattle.snapshot.specs.Tables.{Columns, Tables}
 use Rattle.snapshot.specs.PairsLaws.{due-row, due-equal, due-other, due-row-end, due-end}
 use Rattle.tables.specs.Judging.{routeAt, start, routesAt, prefixAt, cell}

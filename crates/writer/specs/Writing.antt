@@ -1,6 +1,5 @@
 -- Writing tables back as a snapshot's bytes: what is answered, and what stands in the output afterwards.
 use Prim.Native.Nat.{ℕ, _+_, _-_, _*_, _≤_, _<_}
-use mathlib.Core.Path.{_≡_}
 use mathlib.Core.List.{List, [], _∷_, _++_, map}
 use lib.ListN.{length}
 use lib.Dec.{T}
@@ -11,7 +10,7 @@ use Rattle.refusal.specs.Numbers.{numberOf}
 use Rattle.model.specs.Rows.{table, column}
 use Rattle.snapshot.specs.declared.Counts.{Counts}
 use Rattle.snapshot.specs.Ranges.{anyOf, none}
-use Rattle.snapshot.specs.Records.{countForm, prefixForm, written}
+use Rattle.snapshot.specs.Records.{countForm, routerForm, distanceForm, prefixForm, routeForm, endForm, written, size}
 use Rattle.snapshot.specs.Format.{Prefix, Snapshot, Pair, row, pairs, routersBytes, distancesBytes, routesBytes, encode, Valid}
 use Rattle.snapshot.specs.Tables.{Tables, short, Held}
 use Rattle.tables.specs.Judging.{routesAt, cell, Holding}
@@ -82,7 +81,13 @@ pairCount n = n * (n - 1)
 
 -- the bytes of the snapshot, and its records before the end record
 abbrev pub sizeOf : Counts → ℕ
-sizeOf c = 7 + 6 * c .routers + 7 * pairCount (c .routers) + 6 * c .prefixes + 24 * c .routes
+sizeOf c =
+    size countForm
+    + size routerForm * c .routers
+    + size distanceForm * pairCount (c .routers)
+    + size prefixForm * c .prefixes
+    + size routeForm * c .routes
+    + size endForm
 
 abbrev pub recordsOf : Counts → ℕ
 recordsOf c = 1 + c .routers + pairCount (c .routers) + c .prefixes + c .routes

@@ -1,23 +1,22 @@
 -- The parts of a snapshot's bytes, their number by the counts, and each case of writing.
-use Prim.Native.Nat.{ℕ, suc, _+_, _-_, _*_, _≤_, _<_}
+use Prim.Native.Nat.{ℕ, _+_, _-_, _≤_, _<_}
 use native.Mathlib.Nat.{mul-le-mul}
 use native.Mathlib.Omega.{arith}
 use mathlib.Core.Path.{_≡_, refl, sym, ap, _∙_, subst}
-use mathlib.Core.List.{List, [], _∷_, _++_, map, append-assoc}
+use mathlib.Core.List.{List, [], _∷_, _++_, append-assoc}
 use lib.ListN.{length, length-map}
 use lib.Dec.{T}
 use lib.Seq.{sets}
 use Rattle.refusal.specs.declared.Refusal.{Refusal}
 use Rattle.refusal.specs.declared.Refusal.the-variants.{Room}
 use Rattle.refusal.specs.NumbersLaws.{number-range}
-use Rattle.model.specs.Rows.{table, column}
-use Rattle.model.specs.LoopLaws.{table-length}
+use Rattle.model.specs.Rows.{table}
 use Rattle.snapshot.specs.declared.Counts.{Counts}
 use Rattle.snapshot.specs.Limits.{mostRouters}
 use Rattle.snapshot.specs.Ranges.{none}
 use Rattle.snapshot.specs.Records.{countForm, endForm, written}
-use Rattle.snapshot.specs.Format.{Snapshot, pairs, routersBytes, distancesBytes, prefixesBytes, routesIn, records, encode, encodeOpen, Valid}
-use Rattle.snapshot.specs.Tables.{Tables, short, Held, countsOf}
+use Rattle.snapshot.specs.Format.{Snapshot, pairs, routersBytes, distancesBytes, prefixesBytes, routesIn, records, encode}
+use Rattle.snapshot.specs.Tables.{Tables, short, countsOf}
 use Rattle.snapshot.specs.ChecksLaws.{count-range}
 use Rattle.snapshot.specs.PairsLaws.{pairs-length}
 use Rattle.snapshot.specs.WrittenLaws.{encode-size}
@@ -29,11 +28,11 @@ use Rattle.tables.specs.PartsLaws.{parts-valid, parts-held, holding-parts}
 use Rattle.tables.specs.Theorems.{has-room}
 use Rattle.records.specs.Putting.{Space, Puts}
 use Rattle.records.specs.PuttingLaws.{puts-append}
-use Rattle.writer.specs.Writing.{networkBytes, pairCount, sizeOf, recordsOf, Said, wrote, refuses, Writes, room, unheld, full, done}
+use Rattle.writer.specs.Writing.{networkBytes, pairCount, sizeOf, recordsOf, wrote, refuses, Writes, room, unheld, full, done}
 
 -- the pairs of at most 64 routers
-pub pairs-most : (n : ℕ) → n ≤ mostRouters → pairCount n ≤ 4032
-pairs-most n h = mul-le-mul h (let l : n - 1 ≤ 63 = omega arith in l)
+pub pairs-most : (n : ℕ) → n ≤ mostRouters → pairCount n ≤ pairCount mostRouters
+pairs-most n h = mul-le-mul h (let l : n - 1 ≤ mostRouters - 1 = omega arith in l)
 
 pub routers-range : {counts : Counts} → InRange counts → (1 ≤ counts .routers) × (counts .routers ≤ mostRouters)
 routers-range {counts} range = count-range (counts .routers) (range .routers)

@@ -31,7 +31,7 @@ fn put_ids(n: usize, ids: &[u32], out: &mut [u8], first: usize) -> usize
     let mut k = 0;
     while k < n {
         records::put_router(out, at, k as u32, ids[k]);
-        at += 6;
+        at += records::ROUTER_SIZE;
         k += 1;
     }
     at
@@ -56,7 +56,7 @@ fn put_row(n: usize, distances: &[u32], from: usize, out: &mut [u8], first: usiz
             to as u32,
             distances[from * snapshot::STRIDE + to],
         );
-        at += 7;
+        at += records::DISTANCE_SIZE;
         to += 1;
     }
     at
@@ -83,7 +83,7 @@ fn put_network(n: usize, ids: &[u32], distances: &[u32], out: &mut [u8]) -> usiz
     ensures { λ r. ⌜ Puts (networkBytes (was ids) (was distances) n) (was out) 0 (is out) r ⌝ }
 {
     records::put_count(out, 0, n as u32);
-    let at = put_ids(n, ids, out, 2);
+    let at = put_ids(n, ids, out, records::COUNT_SIZE);
     put_distances(n, distances, out, at)
 }
 
@@ -125,7 +125,7 @@ fn put_routes(
                 row + k,
             ),
         );
-        at += 24;
+        at += records::ROUTE_SIZE;
         k += 1;
     }
     at
@@ -169,7 +169,7 @@ fn put_prefix(
         row,
         count,
         out,
-        first + 6,
+        first + records::PREFIX_SIZE,
     )
 }
 
@@ -228,7 +228,7 @@ fn put_prefixes(
 // The pairs of n routers.
 fn pair_count(n: u32) -> u32
     requires { ⌜ (1 ≤ n) × (n ≤ mostRouters) ⌝ }
-    ensures { λ r. ⌜ (r ≡ pairCount n) × (r ≤ 4032) ⌝ }
+    ensures { λ r. ⌜ (r ≡ pairCount n) × (r ≤ pairCount mostRouters) ⌝ }
 {
     n * (n - 1)
 }
@@ -239,11 +239,12 @@ fn size(counts: Counts) -> usize
     ensures { λ r. ⌜ r ≡ sizeOf counts ⌝ }
 {
     let pairs = pair_count(counts.routers);
-    7
-        + 6 * (counts.routers as usize)
-        + 7 * (pairs as usize)
-        + 6 * (counts.prefixes as usize)
-        + 24 * (counts.routes as usize)
+    records::COUNT_SIZE
+        + records::ROUTER_SIZE * (counts.routers as usize)
+        + records::DISTANCE_SIZE * (pairs as usize)
+        + records::PREFIX_SIZE * (counts.prefixes as usize)
+        + records::ROUTE_SIZE * (counts.routes as usize)
+        + records::END_SIZE
 }
 
 // Its records before the end record.
@@ -300,7 +301,7 @@ fn write_held(
         at,
     );
     records::put_end(out, at, records);
-    Write::Written(at + 5)
+    Write::Written(at + records::END_SIZE)
 }
 
 // Writes the snapshot that counts and tables hold to the start of the output. Refused as ROOM where a table is shorter than its limit,

@@ -2,8 +2,8 @@
 use mathlib.Core.Path.{sym}
 use denote.Ref.{now}
 use borrow.Author.Needs.{needs}
-use Rattle.snapshot.specs.Plain.{routeIs}
 use Rattle.snapshot.specs.Records.{written, spread}
+use Rattle.snapshot.specs.Plain.{routeIs}
 use Rattle.records.specs.Putting.{frontForm, frontFields, backWidths, backFields}
 use Rattle.records.specs.PuttingLaws.{sets-append}
 use Rattle.records.proofs.put_route.Statement.{statement}

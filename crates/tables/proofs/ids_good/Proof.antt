@@ -1,7 +1,7 @@
 -- `ids_good` meets its contract: the ids before k passed. Assumes nothing.
 use Prim.Native.Nat.{_-_}
-use borrow.Author.Needs.{needs}
 use native.Mathlib.Omega.{arith}
+use borrow.Author.Needs.{needs}
 use Rattle.tables.specs.Judging.{IdGood}
 use Rattle.tables.specs.JudgeLaws.{SoFar, sofar, sofar-next, sofar-end, sofar-not, id-good, id-bad}
 use Rattle.tables.proofs.ids_good.Statement.{statement}

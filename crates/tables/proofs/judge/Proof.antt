@@ -2,8 +2,8 @@
 use native.Mathlib.Omega.{arith}
 use borrow.Author.Needs.{needs}
 use borrow.Author.Tests.{not-true, not-false}
-use Rattle.tables.specs.JudgeLaws.{few-routers, room-alone}
 use Rattle.tables.specs.PartsLaws.{judged-no, judged-last}
+use Rattle.tables.specs.JudgeLaws.{few-routers, room-alone}
 use Rattle.tables.proofs.judge.Statement.{statement}
 use Rattle.tables.proofs.judge.Tie as tie
 

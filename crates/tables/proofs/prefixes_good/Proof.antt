@@ -2,10 +2,9 @@
 use Prim.Native.Nat.{_-_}
 use native.Mathlib.Omega.{arith}
 use mathlib.Core.Path.{refl}
-use denote.Ref.{now}
 use borrow.Author.Needs.{needs}
 use borrow.Author.Tests.{not-true, not-false}
-use Rattle.snapshot.specs.Tables.{Tables, columns}
+use Rattle.snapshot.specs.Tables.{columns}
 use Rattle.tables.specs.Judging.{prefixTables}
 use Rattle.tables.specs.JudgeLaws.{few-routers, Counting, counting, counting-next, counting-over, counting-not, counting-end}
 use Rattle.tables.proofs.prefixes_good.Statement.{statement}

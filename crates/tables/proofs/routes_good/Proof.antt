@@ -3,7 +3,6 @@ use Prim.Native.Nat.{ℕ, _+_, _-_}
 use native.Mathlib.Omega.{arith}
 use denote.Ref.{now}
 use borrow.Author.Needs.{needs}
-use Rattle.snapshot.specs.Plain.{routeIs}
 use Rattle.snapshot.specs.Tables.{Columns, columns}
 use Rattle.tables.specs.Judging.{routeAt, RouteGood}
 use Rattle.tables.specs.JudgeLaws.{SoFar, sofar, sofar-next, sofar-end, sofar-not, Words, route-good, route-bad}

@@ -1,7 +1,7 @@
 -- `pair_count` meets its contract. Assumes nothing.
 use native.Mathlib.Omega.{arith}
-use borrow.Author.Needs.{needs}
 use mathlib.Core.Path.{refl}
+use borrow.Author.Needs.{needs}
 use Rattle.writer.specs.WritingLaws.{pairs-most}
 use Rattle.writer.proofs.pair_count.Statement.{statement}
 use Rattle.writer.proofs.pair_count.Tie as tie

@@ -1,14 +1,14 @@
 -- `put_routes` meets its contract: the records of the routes from the k-th on are left. Assumes nothing.
 use Prim.Native.Nat.{_-_}
 use native.Mathlib.Omega.{arith}
-use denote.Ref.{now}
-use borrow.Author.Needs.{needs}
 use mathlib.Core.Path.{refl, ap, _∙_}
 use lib.Seq.{sets}
+use denote.Ref.{now}
+use borrow.Author.Needs.{needs}
+use Rattle.model.specs.Decision.{Route}
 use Rattle.snapshot.specs.Records.{routeForm, written}
 use Rattle.snapshot.specs.Format.{routeFields, routesBytes}
 use Rattle.snapshot.specs.Tables.{Columns, columns}
-use Rattle.model.specs.Decision.{Route}
 use Rattle.tables.specs.Judging.{routesAt}
 use Rattle.writer.specs.SectionsLaws.{Section, section, section-room, section-next, section-long, section-end, routesFrom, routes-first, routes-next, routes-last}
 use Rattle.writer.proofs.put_routes.Statement.{statement}

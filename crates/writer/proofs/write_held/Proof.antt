@@ -9,8 +9,8 @@ use Rattle.snapshot.specs.Records.{endForm, written}
 use Rattle.snapshot.specs.Format.{prefixesBytes}
 use Rattle.snapshot.specs.Tables.{Tables, tables, columns}
 use Rattle.tables.specs.Judging.{prefixAt, Room, Parts}
-use Rattle.tables.specs.JudgeLaws.{few-routers, room-alone}
 use Rattle.tables.specs.PartsLaws.{holding-parts}
+use Rattle.tables.specs.JudgeLaws.{few-routers, room-alone}
 use Rattle.tables.specs.Theorems.{has-room}
 use Rattle.records.specs.Putting.{Space}
 use Rattle.records.specs.PuttingLaws.{space-first, space-then}
