@@ -35,6 +35,41 @@ cargo_tests() {
     fi
 }
 
+# added COMMAND ..: runs a command whose last line is 'N passed, M failed' and adds both to the sum.
+# One that ends otherwise, or badly with no failure counted, is a failure itself.
+added() {
+    local log status last
+    log=$(mktemp)
+    "$@" 2>&1 | tee "$log"
+    status=${PIPESTATUS[0]}
+    last=$(tail -n 1 "$log")
+    if [[ $last =~ ^([0-9]+)\ passed,\ ([0-9]+)\ failed$ && ($status -eq 0 || ${BASH_REMATCH[2]} -gt 0) ]]; then
+        passed=$((passed + BASH_REMATCH[1]))
+        failed=$((failed + BASH_REMATCH[2]))
+    else
+        echo "FAILED: $1 did not run to its end (exit status $status)"
+        failed=$((failed + 1))
+    fi
+    rm -f "$log"
+}
+
+# fresh FILE COMMAND ..: runs the command that makes FILE, unless FILE is there and newer than every crate.
+fresh() {
+    local file=$1
+    shift
+    if [[ ! -e $file || -n $(find crates crates.txt -newer "$file" -print -quit) ]]; then
+        "$@" && [[ -e $file ]]
+    fi
+}
+
+# give_up WHY: ends a script that lacks what it is to test, as a failure.
+give_up() {
+    echo "FAILED: $1"
+    failed=$((failed + 1))
+    report
+    exit 1
+}
+
 # The last line of a script, and its exit status.
 report() {
     echo "$passed passed, $failed failed"

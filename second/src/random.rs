@@ -4,7 +4,7 @@ use crate::seed::Seeded;
 use crate::snapshot::*;
 
 /// The kinds by name.
-pub const KINDS: [&str; 7] = ["small", "open", "typical", "tied", "limits", "chain-early", "chain-late"];
+pub const KINDS: [&str; 8] = ["small", "open", "wide", "typical", "tied", "limits", "chain-early", "chain-late"];
 
 /// A snapshot of the kind, or nothing where there is no such kind.
 pub fn random(seed: u64, kind: &str) -> Option<Snapshot> {
@@ -13,6 +13,7 @@ pub fn random(seed: u64, kind: &str) -> Option<Snapshot> {
     let snapshot = match kind {
         "small" => small(seeded),
         "open" => open(seeded),
+        "wide" => network(seeded, ROUTERS, 4, wide),
         "typical" => full(seeded, &[16; PREFIXES], varied_route),
         "tied" => full(seeded, &[ROUTES_OF_PREFIX; 4], tied_route),
         "limits" => full(seeded, &limits(), varied_route),
@@ -91,6 +92,18 @@ fn crossed(seeded: &mut Seeded, first: u8) -> Vec<Route> {
             let peer = 5 + seeded.within(0, 200);
             routes.push(contesting(router, neighbour_as, med, neighbour_id, peer));
         }
+    }
+    routes
+}
+
+/// All routers in crossed pairs, which share their ASes or have their own, and less liked routes up to the limit.
+fn wide(seeded: &mut Seeded) -> Vec<Route> {
+    let mut routes: Vec<Route> = (0..ROUTERS as u8).step_by(2).flat_map(|first| crossed(seeded, first)).collect();
+    routes = risen(routes);
+    for serial in routes.len()..ROUTES_OF_PREFIX {
+        let (router, neighbour_as) = (seeded.below(ROUTERS) as u8, seeded.within(1, 128));
+        let (med, neighbour_id) = (seeded.within(0, 4), seeded.within(2, 9));
+        routes.push(contesting(router, neighbour_as, med, neighbour_id, 1000 + serial as u32));
     }
     routes
 }

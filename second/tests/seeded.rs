@@ -11,6 +11,7 @@ fn kinds_have_the_sizes_they_promise() {
         let most = snapshot.prefixes.iter().map(|prefix| prefix.routes.len()).max().unwrap_or(0);
         (snapshot.ids.len(), snapshot.prefixes.len(), most, snapshot.routes())
     };
+    assert_eq!(sizes("wide"), (64, 4, 256, 1024));
     assert_eq!(sizes("typical"), (64, 64, 16, 1024));
     assert_eq!(sizes("tied"), (64, 4, 256, 1024));
     assert_eq!(sizes("limits"), (64, 64, 256, 1024));

@@ -7,7 +7,7 @@ use crate::tables::*;
 use std::ops::Range;
 
 /// The row of a router that holds none.
-pub const NONE: u32 = 65_535;
+pub const NONE: u16 = 65_535;
 
 /// One bit for each router whose two rows differ, and how many these are.
 #[derive(Clone, Copy, Debug, PartialEq, Eq)]
@@ -20,8 +20,8 @@ pub fn forecast(
     counts: Counts,
     tables: &Tables,
     prefix: usize,
-    early: &mut [u32],
-    late: &mut [u32],
+    early: &mut [u16],
+    late: &mut [u16],
 ) -> Result<Outlook, Refusal> {
     tables.check_room()?;
     if early.len() < ROUTERS || late.len() < ROUTERS {
@@ -35,7 +35,7 @@ pub fn forecast(
 }
 
 /// The forecast where tables and prefix are known to be sound.
-pub fn outlook(counts: Counts, tables: &Tables, prefix: usize, early: &mut [u32], late: &mut [u32]) -> Outlook {
+pub fn outlook(counts: Counts, tables: &Tables, prefix: usize, early: &mut [u16], late: &mut [u16]) -> Outlook {
     let start = tables.prefix_routes[..prefix].iter().sum::<u32>() as usize;
     let rows = start..start + tables.prefix_routes[prefix] as usize;
     let contest = Contest::new(&tables.routes, rows.clone(), counts.routers);
@@ -50,7 +50,7 @@ pub fn outlook(counts: Counts, tables: &Tables, prefix: usize, early: &mut [u32]
 }
 
 /// What each router chooses from its own rows and from those which the others hold at these standings.
-fn hold(tables: &Tables, rows: &Range<usize>, contest: &Contest, standings: &[usize; ROUTERS], answer: &mut [u32]) {
+fn hold(tables: &Tables, rows: &Range<usize>, contest: &Contest, standings: &[usize; ROUTERS], answer: &mut [u16]) {
     let mut held = [None; ROUTERS];
     for (router, held) in held.iter_mut().enumerate().take(answer.len()) {
         *held = contest.row_at(router, standings[router]);
@@ -65,6 +65,6 @@ fn hold(tables: &Tables, rows: &Range<usize>, contest: &Contest, standings: &[us
         for row in held[..router].iter().chain(&held[router + 1..]).flatten() {
             available.push(*row);
         }
-        *entry = choose(tables, router, available).map_or(NONE, |row| (row - rows.start) as u32);
+        *entry = choose(tables, router, available).map_or(NONE, |row| (row - rows.start) as u16);
     }
 }

@@ -33,7 +33,7 @@ fn prefix_line(tables: &Tables, prefix: usize, outlook: Outlook, out: &mut impl 
     }
 }
 
-fn router_lines(owners: &[u32], early: &[u32], late: &[u32], outlook: Outlook, out: &mut impl Write) -> io::Result<()> {
+fn router_lines(owners: &[u32], early: &[u16], late: &[u16], outlook: Outlook, out: &mut impl Write) -> io::Result<()> {
     for (router, (&early, &late)) in early.iter().zip(late).enumerate() {
         write!(out, "router {router} ")?;
         entry(owners, router, early, out)?;
@@ -46,11 +46,11 @@ fn router_lines(owners: &[u32], early: &[u32], late: &[u32], outlook: Outlook, o
     Ok(())
 }
 
-fn entry(owners: &[u32], router: usize, row: u32, out: &mut impl Write) -> io::Result<()> {
+fn entry(owners: &[u32], router: usize, row: u16, out: &mut impl Write) -> io::Result<()> {
     if row == NONE {
         return write!(out, "none");
     }
-    match owners[row as usize] {
+    match owners[usize::from(row)] {
         owner if owner as usize == router => write!(out, "own {row}"),
         owner => write!(out, "via {owner} {row}"),
     }

@@ -16,7 +16,7 @@ fn snapshot(seed: u64, kind: &str) -> Snapshot {
 /// Kinds in turn, the large ones more seldom.
 fn some_snapshot(seed: u64) -> Snapshot {
     let kind = if seed.is_multiple_of(20) {
-        random::KINDS[2 + (seed / 20) as usize % 5]
+        random::KINDS[2 + (seed / 20) as usize % 6]
     } else {
         random::KINDS[seed as usize % 2]
     };
@@ -278,8 +278,8 @@ fn forecasts_fill_the_entries_of_the_routers_only() {
                 forecast(counts(&snapshot), &lent.tables(), prefix, &mut early, &mut late).expect("sound tables");
             let outlook = second::forecast::forecast(&snapshot, prefix);
             let routers = snapshot.ids.len();
-            let rows = |held: &[Option<usize>]| -> Vec<u32> {
-                held.iter().map(|row| row.map_or(NONE, |row| row as u32)).collect()
+            let rows = |held: &[Option<usize>]| -> Vec<u16> {
+                held.iter().map(|row| row.map_or(NONE, |row| row as u16)).collect()
             };
             assert_eq!(early[..routers], rows(&outlook.early));
             assert_eq!(late[..routers], rows(&outlook.late));

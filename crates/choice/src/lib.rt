@@ -1,16 +1,13 @@
 // Choosing among what is available: the eight steps of document 01, over lent columns, one function a step and in its order.
 ghost use mathlib.Core.Path.{_≡_};
-ghost use mathlib.Core.Bool.{Bool, cond, _&&_, _||_};
+ghost use mathlib.Core.Bool.{cond, _&&_, _||_};
 ghost use Prim.Native.Nat.{ℕ, _+_, _*_, _≤_, _<_};
 ghost use lib.ListN.{length, getD};
-ghost use lib.Dec.{eqb, ltb};
+ghost use lib.Dec.{eqb};
 ghost use Rattle.model.specs.Rows.{keep, some, span, column, keepLeast, keepGreatest};
 ghost use Rattle.model.specs.Decision.{none, beatsBy, unbeatenBy};
 ghost use Rattle.model.specs.Lent.{was, is, col, on, rowsOf};
 ghost use Rattle.model.specs.Columns.{mostRouters, columns, choiceOf, distanceIn, Placed};
-
-// The most routers; also the stride of the table of distances.
-pub const MOST_ROUTERS: usize = 64;
 
 // The row that a router chooses, or none.
 pub struct Chosen {
@@ -137,7 +134,11 @@ fn far(router: &[u32], distances: &[u32], q: usize, r: u32) -> u32
 {
     let owner = router[q] as usize;
     let from = r as usize;
-    pick(router[q] == r, 0, distances[from * MOST_ROUTERS + owner])
+    pick(
+        router[q] == r,
+        0,
+        distances[from * rows::MOST_ROUTERS + owner],
+    )
 }
 
 // 6. The lowest interior distance to the router that owns the route (0 for one's own).
@@ -199,14 +200,6 @@ fn nearest(
     lowest_peer(peer, kept);
 }
 
-fn unmarked() -> [bool; rows::MOST_ROWS] {
-    [false; rows::MOST_ROWS]
-}
-
-fn blank() -> [u32; rows::MOST_ROWS] {
-    [0; rows::MOST_ROWS]
-}
-
 // What the eight steps give r of what is available to it where each router holds what `held` says, in the room that is lent.
 fn choose_in(
     router: &[u32],
@@ -258,9 +251,9 @@ pub fn choose(
     requires { ⌜ r < length (now held) ⌝ }
     ensures { λ c. ⌜ (c .row ≡ choiceOf (length (was held)) (was ids) (was distances) (columns (was router) (was asn) (was preference) (was path) (was origin) (was med) (was nid) (was peer)) (was held) r) ⌝ }
 {
-    let mut key = blank();
-    let mut kept = unmarked();
-    let mut left = unmarked();
+    let mut key = rows::past();
+    let mut kept = rows::unmarked();
+    let mut left = rows::unmarked();
     let rows = router.len();
     choose_in(
         router,

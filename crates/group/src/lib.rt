@@ -3,13 +3,13 @@
 ghost use mathlib.Core.Path.{_≡_};
 ghost use mathlib.Core.Bool.{_&&_, not};
 ghost use Prim.Native.Nat.{ℕ, _≤_, _<_};
-ghost use lib.ListN.{length, replicate};
+ghost use lib.ListN.{length};
 ghost use lib.Dec.{eqb, ltb};
 ghost use Rattle.model.specs.Rows.{keep, table, column};
 ghost use Rattle.model.specs.Decision.{beatsBy, unbeatenBy};
 ghost use Rattle.model.specs.Contest.{leastOr};
 ghost use Rattle.model.specs.Lent.{was, is, col, on, rowsOf};
-ghost use Rattle.model.specs.Columns.{mostRows, pastKeys};
+ghost use Rattle.model.specs.Columns.{mostRows};
 ghost use Rattle.model.specs.Arrangement.{alikeBy, groupBy};
 
 // Whether p has what q has in two columns.
@@ -41,13 +41,6 @@ pub fn groups(a: &[u32], b: &[u32], group: &mut [u32])
     for q in 0..a.len() {
         group[q] = group_of(a, b, q) as u32;
     }
-}
-
-// A table of numbers that no key is above.
-pub fn past() -> [u32; rows::MOST_ROWS]
-    ensures { λ x. ⌜ x ≡ replicate mostRows pastKeys ⌝ }
-{
-    [rows::PAST_KEYS; rows::MOST_ROWS]
 }
 
 // Lowers the number of each bucket to the least key of the kept rows in it.
@@ -88,7 +81,7 @@ pub fn unbeaten(group: &[u32], med: &[u32], others: &[bool], kept: &[bool], left
     requires { ⌜ (length (now group) ≡ length (now kept)) × (length (now med) ≡ length (now kept)) × (length (now others) ≡ length (now kept)) × (length (now left) ≡ length (now kept)) × ((q : ℕ) → q < length (now kept) → column (now group) q < mostRows) ⌝ }
     ensures { λ _. ⌜ rowsOf (is left) ≡ unbeatenBy (beatsBy (col group) (col med)) (rowsOf (was others)) (rowsOf (was kept)) ⌝ }
 {
-    let mut low = past();
+    let mut low = rows::past();
     lower(group, med, others, &mut low);
     spare(group, med, &low, kept, left);
 }

@@ -2,18 +2,19 @@
 use Prim.Native.Nat.{ℕ, zero, suc, _+_, _<_, _≤_, min}
 use native.Mathlib.Omega.{arith}
 use mathlib.Core.Path.{_≡_, refl, sym, ap, ap₂, _∙_, fun-ext}
-use mathlib.Core.Bool.{Bool, true, false, cond, _&&_, _||_, not, and-comm, and-assoc, and-self, and-false, false≢true, true≢false}
+use mathlib.Core.Bool.{Bool, true, false, _&&_, _||_, not, and-comm, and-assoc, and-self, and-true, and-false, false≢true, true≢false}
 use mathlib.Core.List.{List, [], _∷_}
 use lib.Dec.{eqb, ltb, leb}
 use lib.ListN.{length, getD}
 use borrow.Author.Tests.{eqb-true, eqb-false, eq-eqb, ne-eqb, lt-ltb, le-ltb, ltb-true, ltb-false}
 use Rattle.model.specs.Rows.{keep, some, count, span, table, column}
-use Rattle.model.specs.Decision.{Mesh, none, all, ownOf, metric, beats, beatsBy, unbeaten, unbeatenBy, preferred}
+use Rattle.model.specs.Decision.{Mesh, none, all, ownOf, metric, beats, beatsBy, unbeatenBy, preferred}
 use Rattle.model.specs.Stability.{contenders, before, standing}
-use Rattle.model.specs.Contest.{Contest, leastOr, end, passed, firstFree, refine, repeat, beatsOwnBy, aheadBy, contending, placeOf, contest, atPlace}
+use Rattle.model.specs.Contest.{Contest, leastOr, end, passed, firstFree, refine, repeat, beatsOwnBy, aheadBy, contending, placeOf, contest, earliest, latest, top, atPlace}
 use Rattle.model.specs.Lent.{on, rowsOf}
-use Rattle.model.specs.Arrangement.{alikeBy, groupBy, placeBy, listed, standsAt}
-use Rattle.model.specs.LoopLaws.{by, both, keep-keep, table-same, table-at}
+use Rattle.model.specs.Columns.{Columns, Fits, mostRows, routesMesh}
+use Rattle.model.specs.Arrangement.{alikeBy, groupBy, placeBy, listed, standsAt, startBy, settledBy, Ready}
+use Rattle.model.specs.LoopLaws.{by, both, keep-keep, table-same, table-at, table-length}
 use Rattle.model.specs.ColumnLaws.{Among, among-keep, among-rows, Agree, agree-keep, keep-agree, some-agree, least-or-agree, column-table}
 
 -- ---- groups
@@ -215,3 +216,127 @@ module _ (M : Mesh) (r : ℕ) where
       ap (leastOr none (λ q. q)) (keep-agree (λ q. eqb (standing M r q) (getD x r 0)) (λ q. eqb (placeOf M q) (getD x r 0)) (contenders M r)
       (λ q m. ap (λ (k : ℕ). eqb k (getD x r 0)) (standing-is q m)))
       ∙ ap (λ (rows : List ℕ). leastOr none (λ q. q) (keep (λ q. eqb (placeOf M q) (getD x r 0)) rows)) contenders-are
+
+-- what the code finds of contenders: by the flags of all rows, of the preferred, and of those that no group beats
+pub contending-is : (t : Columns) (routers : ℕ) (kept : List Bool) {every free : List ℕ} {group : List ℕ}
+    → every ≡ span 0 (length (t .router)) → length kept ≡ length (t .router)
+    → rowsOf kept ≡ preferred (routesMesh routers t) every
+    → group ≡ table (length (t .router)) (groupBy (column (t .router)) (column (t .asn)))
+    → free ≡ unbeatenBy (beatsBy (column group) (column (t .med))) (rowsOf kept) (rowsOf kept)
+    → free ≡ contending (routesMesh routers t)
+contending-is t routers kept {group} a l k g f =
+    let M = routesMesh routers t in
+    let n = length (t .router) in
+    let stored : ℕ → ℕ = column (table n (groupBy (column (t .router)) (column (t .asn)))) in
+    f
+    ∙ ap (λ (xs : List ℕ). unbeatenBy (beatsBy (column xs) (column (t .med))) (rowsOf kept) (rowsOf kept)) g
+    ∙ unbeaten-agree (beatsBy stored (column (t .med))) (beatsOwnBy (M .router) (M .asn) (metric M)) (rowsOf kept) (rowsOf kept)
+    (λ q m p m′. beats-own-grouped (column (t .asn)) (column (t .med)) (column (t .router)) n p q
+    (let h = among-rows kept p m′ in omega arith) (let h = among-rows kept q m in omega arith))
+    ∙ ap (λ (rows : List ℕ). unbeatenBy (beatsOwnBy (M .router) (M .asn) (metric M)) rows rows) (k ∙ ap (preferred M) a)
+
+-- a stored group is a row
+pub group-within : (a b : ℕ → ℕ) (n most : ℕ) {group : List ℕ} → group ≡ table n (groupBy a b) → n ≤ most → (q : ℕ) → q < n → column group q < most
+group-within a b n most g m q l =
+    let e = ap (λ (xs : List ℕ). column xs q) g ∙ table-at (groupBy a b) 0 n q l in
+    let h = group-le a b q in
+    omega arith
+
+-- ---- the lists that the code makes of a prefix
+pub record Arranged (routers : ℕ) (t : Columns) (contends : List Bool) (place group ends : List ℕ) : Type 0 where
+  pub contends-are : rowsOf contends ≡ contending (routesMesh routers t)
+  pub contends-long : length contends ≡ length (t .router)
+  pub places-are : place ≡ table (length contends) (placeBy (t .router) (t .nid) (t .peer) contends)
+  pub groups-are : group ≡ table (length (t .router)) (groupBy (column (t .asn)) (column (t .asn)))
+  pub ends-are : ends ≡ table routers (λ r. count (λ q. eqb (column (t .router) q) r) (rowsOf contends))
+
+module _ {routers : ℕ} {t : Columns} {contends : List Bool} {place group ends : List ℕ} (a : Arranged routers t contends place group ends) where
+  abbrev M : Mesh
+  M = routesMesh routers t
+
+  abbrev E : Contest
+  E = listed (length ends) (t .router) place group (t .med) contends
+
+  ends-long : length ends ≡ routers
+  ends-long = ap length (a .ends-are) ∙ table-length routers (λ r. count (λ q. eqb (column (t .router) q) r) (rowsOf contends))
+
+  -- the place of a row that contends
+  place-at : (q : ℕ) → Among q (rowsOf contends) → column place q ≡ placeOf M q
+  place-at q m =
+      ap (λ (xs : List ℕ). column xs q) (a .places-are)
+      ∙ column-table (placeBy (t .router) (t .nid) (t .peer) contends) contends q m
+      ∙ ap (count (aheadBy (M .router) (M .nid) (M .peer) q)) (a .contends-are)
+
+  beats-at : (q : ℕ) → Among q (rowsOf contends) → Agree (λ p. beatsBy (column group) (column (t .med)) p q) (λ p. beats M p q) (rowsOf contends)
+  beats-at q m p m′ =
+      let l = a .contends-long in
+      let h = among-rows contends p m′ in
+      let k = among-rows contends q m in
+      ap (λ (xs : List ℕ). beatsBy (column xs) (column (t .med)) p q) (a .groups-are)
+      ∙ beats-grouped (column (t .asn)) (column (t .med)) (length (t .router)) p q (omega arith) (omega arith)
+
+  repeat-is : (n : ℕ) (x : List ℕ) → repeat E n x ≡ repeat (contest M) n x
+  repeat-is n x =
+      repeat-agree (length ends) (rowsOf contends) (column (t .router)) (column place) (placeOf M) (beatsBy (column group) (column (t .med))) (beats M) place-at beats-at n x
+      ∙ ap₂ (λ (k : ℕ) (rows : List ℕ). repeat (record { owners = k; items = rows; owner = M .router; place = placeOf M; beats = beats M }) n x) ends-long (a .contends-are)
+
+  -- where rounds lead is what the contest of the prefix comes to
+  pub settled-early : settledBy false (t .router) place group (t .med) contends ends ≡ earliest (contest M)
+  settled-early =
+      repeat-is (length (rowsOf contends)) (table (length ends) (startBy false ends))
+      ∙ ap₂ (λ (n k : ℕ). repeat (contest M) n (table k (λ r. 0))) (ap length (a .contends-are)) ends-long
+
+  pub settled-late : settledBy true (t .router) place group (t .med) contends ends ≡ latest (contest M)
+  settled-late =
+      let e : table (length ends) (column ends) ≡ top (contest M) =
+      ap (λ (k : ℕ). table k (column ends)) ends-long
+      ∙ table-same (column ends) (end (contest M)) routers (λ r l.
+      ap (λ (xs : List ℕ). column xs r) (a .ends-are) ∙ table-at (λ r. count (λ q. eqb (column (t .router) q) r) (rowsOf contends)) 0 routers r l
+      ∙ ap (count (λ q. eqb (M .router q) r)) (a .contends-are)) in
+      repeat-is (length (rowsOf contends)) (table (length ends) (column ends))
+      ∙ ap₂ (λ (n : ℕ) (x : List ℕ). repeat (contest M) n x) (ap length (a .contends-are)) e
+
+  -- the rows at the places of a state
+  stands-at : (x : List ℕ) (r : ℕ) → standsAt (t .router) place contends x r ≡ atPlace M x r
+  stands-at x r =
+      let own = ownOf M r in
+      let stands : ℕ → Bool = λ q. eqb (column place q) (column x (M .router q)) && own q in
+      let at : ℕ → Bool = λ q. eqb (placeOf M q) (getD x r 0) in
+      ap (leastOr none (λ q. q)) (
+      keep-agree stands (λ q. own q && at q) (rowsOf contends) (λ q m. by (own q)
+      (λ e. rw (e, place-at q m, eqb-true (M .router q) r e, and-true (at q)))
+      (λ e. rw (e, and-false (eqb (column place q) (column x (M .router q))))))
+      ∙ sym (keep-keep at own (rowsOf contends))
+      ∙ ap (λ (rows : List ℕ). keep at (keep own rows)) (a .contends-are))
+      ∙ sym (at-place M r x)
+
+  stands-are : (x : List ℕ) → table (length ends) (standsAt (t .router) place contends x) ≡ table routers (atPlace M x)
+  stands-are x =
+      ap (λ (k : ℕ). table k (standsAt (t .router) place contends x)) ends-long
+      ∙ table-same (standsAt (t .router) place contends x) (atPlace M x) routers (λ r l. stands-at x r)
+
+  pub rest-early : table (length ends) (standsAt (t .router) place contends (settledBy false (t .router) place group (t .med) contends ends)) ≡ table routers (atPlace M (earliest (contest M)))
+  rest-early = stands-are (settledBy false (t .router) place group (t .med) contends ends) ∙ ap (λ (x : List ℕ). table routers (atPlace M x)) settled-early
+
+  pub rest-late : table (length ends) (standsAt (t .router) place contends (settledBy true (t .router) place group (t .med) contends ends)) ≡ table routers (atPlace M (latest (contest M)))
+  rest-late = stands-are (settledBy true (t .router) place group (t .med) contends ends) ∙ ap (λ (x : List ℕ). table routers (atPlace M x)) settled-late
+
+  -- and rounds have what they ask for
+  pub ready : Fits routers t → Ready (t .router) place group (t .med) contends ends
+  ready f =
+      let l = a .contends-long in
+      let e = ends-long in
+      let g = ap length (a .groups-are) ∙ table-length (length (t .router)) (groupBy (column (t .asn)) (column (t .asn))) in
+      let p = ap length (a .places-are) ∙ table-length (length contends) (placeBy (t .router) (t .nid) (t .peer) contends) in
+      let m = f .med in
+      record {
+        rows = rw l (f .rows);
+        few = rw e (f .few);
+        router-long = sym l;
+        place-long = p;
+        group-long = omega arith;
+        med-long = omega arith;
+        owned = rw (l, e) (f .owned);
+        grouped = rw l (group-within (column (t .asn)) (column (t .asn)) (length (t .router)) mostRows (a .groups-are) (f .rows));
+        ended = rw e (a .ends-are);
+      }

@@ -4,15 +4,16 @@ use Prim.Native.Nat.{ℕ, zero, suc, _+_, _<_, _≤_, min}
 use native.Mathlib.Nat.{not-suc-le-zero}
 use native.Mathlib.Omega.{arith}
 use mathlib.Core.Path.{_≡_, refl, sym, ap, ap₂, _∙_}
-use mathlib.Core.Bool.{Bool, true, false, cond, _&&_, _||_, not, false≢true, or-true}
+use mathlib.Core.Bool.{Bool, true, not, false≢true, or-true}
 use mathlib.Core.List.{List, [], _∷_}
 use lib.Dec.{eqb}
 use lib.ListN.{length, getD}
+use lib.Seq.{ext-getD}
 use borrow.Author.Tests.{eqb-true, eq-eqb}
 use Rattle.model.specs.Rows.{keep, some, span, least, keepLeast, table, column}
 use Rattle.model.specs.Contest.{leastOr}
 use Rattle.model.specs.Lent.{on, rowsOf}
-use Rattle.model.specs.LoopLaws.{by, table-at, Stored, stored-end}
+use Rattle.model.specs.LoopLaws.{by, table-at, table-length, Stored, stored-end}
 
 -- q is a member
 abbrev pub Among : ℕ → List ℕ → Type 0
@@ -98,3 +99,7 @@ pub getD-inside : {A : Type 0} (xs : List A) (k : ℕ) (d e : A) → k < length 
 getD-inside [] k d e l = absurd (not-suc-le-zero l)
 getD-inside (x ∷ xs) zero d e l = refl
 getD-inside (x ∷ xs) (suc k) d e l = getD-inside xs k d e (omega arith)
+
+-- a list is the table of its entries
+pub column-is : (xs : List ℕ) (f : ℕ → ℕ) → ((k : ℕ) → k < length xs → column xs k ≡ f k) → xs ≡ table (length xs) f
+column-is xs f h = ext-getD 0 xs (table (length xs) f) (sym (table-length (length xs) f)) (λ k l. h k l ∙ sym (table-at f 0 (length xs) k l))

@@ -7,6 +7,7 @@ use lib.ListN.{length}
 use Rattle.model.specs.Rows.{column}
 use Rattle.model.specs.Decision.{Mesh, choice}
 use Rattle.model.specs.Stability.{available}
+use Rattle.model.specs.Contest.{early, late}
 
 -- the most routers; also the stride of the table of distances
 abbrev pub mostRouters : ℕ
@@ -91,3 +92,8 @@ pub record Placed (routers : ℕ) (ids distances : List ℕ) (t : Columns) : Typ
   pub fits : Fits routers t
   pub ids-long : routers ≤ length ids
   pub distances-long : mostRouters * mostRouters ≤ length distances
+
+-- the early and the late row of each router of a mesh
+pub record ForecastRows (M : Mesh) (earlies lates : List ℕ) : Type 0 where
+  pub early-rows : earlies ≡ early M
+  pub late-rows : lates ≡ late M

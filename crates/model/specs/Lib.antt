@@ -20,3 +20,4 @@ pub mod Arrangement
 pub mod LoopLaws
 pub mod ColumnLaws
 pub mod ArrangementLaws
+pub mod RoundLaws

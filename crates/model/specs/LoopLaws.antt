@@ -218,7 +218,7 @@ least-le past key (q ∷ rows) =
     let ih = least-le past key rows in
     omega arith
 
-least-past : (a past : ℕ) (key : ℕ → ℕ) (rows : List ℕ) → a ≤ past → min a (leastOr past key rows) ≡ leastOr a key rows
+pub least-past : (a past : ℕ) (key : ℕ → ℕ) (rows : List ℕ) → a ≤ past → min a (leastOr past key rows) ≡ leastOr a key rows
 least-past a past key [] l = omega arith
 least-past a past key (q ∷ rows) l =
     let ih = least-past a past key rows l in
@@ -325,6 +325,11 @@ module _ {test : ℕ → Bool} {kept : List Bool} where
 
       pub tally-on : b ≡ true → Tally test kept (i + 1) (sum + 1)
       tally-on h = let f = s .few in record { at = walk-on (s .at) l e h (λ rows. omega arith); few = omega arith }
+
+-- how many rows are kept at all
+pub count-all : (rows : List ℕ) → count (λ q. true) rows ≡ length rows
+count-all [] = refl
+count-all (q ∷ rows) = ap suc (count-all rows)
 
 -- ---- a list that a loop has stored whole
 getD-table : {A : Type 0} (f : ℕ → A) (d : A) (from n k : ℕ) → k < n → getD (map f (span from n)) k d ≡ f (from + k)

@@ -1,6 +1,6 @@
 -- A prefix is decided by its rows' fields, by MEDs as they count, and by the ids and distances of its own routers: two meshes that
 -- agree in these have the same stable assignments and standings.
-use Prim.Native.Nat.{ℕ, _<_, min}
+use Prim.Native.Nat.{ℕ, _<_, _≤_, min}
 use native.Mathlib.Omega.{arith}
 use mathlib.Core.Path.{_≡_, refl, sym, ap, ap₂, subst, _∙_}
 use mathlib.Core.Bool.{cond}
@@ -133,3 +133,21 @@ module _ (M N : Mesh) (alike : Alike M N) where
     where
       known : {r : ℕ} → r < N .routers → r < M .routers
       known l = omega (arith, alike .routers)
+
+-- what one is known to be, the other is
+pub sound-alike : (M N : Mesh) → Alike M N → Sound N → Sound M
+sound-alike M N alike sound = record {
+  owned = λ q l. (let k = sound .owned q (row l) in omega (arith, ap (λ (f : ℕ → ℕ). f q) (alike .router), alike .routers));
+  peers = λ p q l k o e. sound .peers p q (row l) (row k) (same (alike .router) o) (same (alike .peer) e);
+  ids = λ a b l k e. sound .ids a b (known l) (known k) (sym (alike .id a l) ∙ e ∙ alike .id b k);
+  few = subst (λ (n : ℕ). n ≤ none) (sym (alike .rows)) (sound .few);
+}
+  where
+    row : {q : ℕ} → q < M .rows → q < N .rows
+    row l = omega (arith, alike .rows)
+
+    known : {r : ℕ} → r < M .routers → r < N .routers
+    known l = omega (arith, alike .routers)
+
+    same : {f g : ℕ → ℕ} {p q : ℕ} → f ≡ g → f p ≡ f q → g p ≡ g q
+    same {p} {q} e h = subst (λ (k : ℕ → ℕ). k p ≡ k q) e h

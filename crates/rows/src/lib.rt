@@ -2,8 +2,8 @@
 // greatest key of a kept row, and keep the rows with that key.
 ghost use mathlib.Core.Path.{_≡_};
 ghost use mathlib.Core.Bool.{_&&_};
-ghost use Prim.Native.Nat.{ℕ, _≤_, _<_};
-ghost use lib.ListN.{length, getD};
+ghost use Prim.Native.Nat.{_≤_, _<_};
+ghost use lib.ListN.{length, getD, replicate};
 ghost use lib.Dec.{eqb, ltb};
 ghost use Rattle.model.specs.Rows.{keep, span, greatest, keepLeast};
 ghost use Rattle.model.specs.Decision.{none};
@@ -14,11 +14,26 @@ ghost use Rattle.model.specs.Columns.{mostRows, pastKeys};
 // The most routes of a prefix.
 pub const MOST_ROWS: usize = 256;
 
+// The most routers; also the stride of the table of distances.
+pub const MOST_ROUTERS: usize = 64;
+
 // No row.
 pub const NONE: u16 = 65535;
 
 // No key is above it.
 pub const PAST_KEYS: u32 = 4294967295;
+
+// A flag for each row, none of them set.
+pub fn unmarked() -> [bool; MOST_ROWS] {
+    [false; MOST_ROWS]
+}
+
+// A number for each row, or bucket, that no key is above.
+pub fn past() -> [u32; MOST_ROWS]
+    ensures { λ x. ⌜ x ≡ replicate mostRows pastKeys ⌝ }
+{
+    [PAST_KEYS; MOST_ROWS]
+}
 
 // Whether the kept row q has a key below `low`.
 pub fn lower(key: &[u32], kept: &[bool], q: usize, low: u32) -> bool
@@ -113,4 +128,18 @@ pub fn first(kept: &[bool]) -> u16
         }
     }
     NONE
+}
+
+// How many rows are kept.
+pub fn count(kept: &[bool]) -> usize
+    ensures { λ r. ⌜ r ≡ length (rowsOf (was kept)) ⌝ }
+{
+    let mut sum: usize = 0;
+    for q in 0..kept.len() {
+        if kept[q] {
+            sum += 1;
+            continue;
+        }
+    }
+    sum
 }

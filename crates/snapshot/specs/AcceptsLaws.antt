@@ -5,7 +5,7 @@ use mathlib.Core.Path.{_≡_, refl, sym, ap, ap₂, _∙_, subst}
 use mathlib.Core.Bool.{not}
 use mathlib.Core.List.{List, [], _∷_, _++_, append-assoc, append-nil}
 use lib.ListN.{length, getD, drop}
-use lib.Dec.{T, leb, eqb, ltb→lt, leb→le, eqb→eq}
+use lib.Dec.{T, leb, eqb, ltb→lt, eqb→eq}
 use lib.Pow.{areBytes}
 use Rattle.model.specs.Decision.{Route}
 use Rattle.wire.specs.NumbersLaws.{bytes-drop}

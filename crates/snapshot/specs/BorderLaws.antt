@@ -7,16 +7,15 @@ use mathlib.Core.Path.{_≡_, refl, sym, ap, ap₂, _∙_}
 use mathlib.Core.Bool.{Bool, true, false, not}
 use mathlib.Core.List.{List, [], _∷_, _++_}
 use lib.ListN.{length, getD, take, drop, length-take}
-use lib.Seq.{take-take, take-nil}
+use lib.Seq.{take-nil}
 use lib.Dec.{T, leb, eqb, ltb→lt, lit≤}
 use borrow.Author.Tests.{le-leb, lt-leb}
-use Rattle.refusal.specs.declared.Refusal.{Refusal}
 use Rattle.refusal.specs.declared.Refusal.the-variants.{Cut, Kind, Place}
 use Rattle.model.specs.Decision.{Route}
 use Rattle.snapshot.specs.Limits.{mostRouters, mostPrefixes, mostRoutes}
 use Rattle.snapshot.specs.Records.{Form, countForm, routerForm, distanceForm, prefixForm, routeForm, endForm, size, known, kind, values}
 use Rattle.snapshot.specs.RecordsLaws.{fields-take}
-use Rattle.snapshot.specs.Format.{Prefix, Snapshot, Pair, pairs, Check, _else_, judged, Holds, routesIn, records}
+use Rattle.snapshot.specs.Format.{Prefix, Snapshot, Pair, pairs, Check, _else_, Holds, routesIn, records}
 use Rattle.snapshot.specs.Reading.{Answer, refused, unless, either, isNil, prefixRecord, routeRecord, endRecord, distanceRecord, routerRecord, countRecord, recordChecks, prefixExtra, prefixValues, routeExtra, routeValues, endValues, tail, item, items, prefixOf, routeOf, withPrefixes, withPrefix, withRoute, addRoute, distanceValues, distances, routerValues, routers, countValues, reading}
 use Rattle.snapshot.specs.ChecksLaws.{judged-same, judged-front, Passed, passed, count-range, length-snoc, routesIn-append, routesIn-add, length-add, some-prefix}
 use Rattle.snapshot.specs.SectionsLaws.{drop-shorter, items-step}

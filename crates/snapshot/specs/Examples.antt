@@ -28,6 +28,7 @@ p5-bytes =
     ++ (5 ∷ 1 ∷ 253 ∷ 233 ∷ 0 ∷ 0 ∷ 0 ∷ 100 ∷ 0 ∷ 2 ∷ 0 ∷ 1 ∷ 0 ∷ 0 ∷ 0 ∷ 5 ∷ 0 ∷ 0 ∷ 0 ∷ 1 ∷ 192 ∷ 0 ∷ 2 ∷ 6 ∷ [])
     ++ (6 ∷ 0 ∷ 0 ∷ 0 ∷ 15 ∷ [])
 
+-- P5
 abbrev pub p5 : Snapshot
 p5 = record {
   ids = 167772161 ∷ 167772162 ∷ 167772163 ∷ [];
@@ -52,6 +53,7 @@ p5-written = refl
 p5-distance : distance p5 2 1 ≡ 9
 p5-distance = refl
 
+-- an input and its answer
 pub record Case : Type 0 where
   pub input : List ℕ
   pub answer : Answer

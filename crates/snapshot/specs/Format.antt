@@ -43,6 +43,7 @@ Holds ((b else r) ∷ checks) = T b × Holds checks
 
 -- ---- the pairs of routers, by from, then to, leaving out equal ones
 
+-- two routers
 pub record Pair : Type 0 where
   pub from : ℕ
   pub to : ℕ

@@ -14,6 +14,8 @@ pub mod WrittenLaws
 pub mod BorderLaws
 pub mod PlaceLaws
 pub mod Examples
+pub mod Longest
+pub mod LongestLaws
 pub mod Theorems
 pub mod Plain
 pub mod Tables

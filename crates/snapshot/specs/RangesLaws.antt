@@ -1,8 +1,8 @@
 -- What lists of tests are worth in a proof, and the shift by which the code tests a prefix.
 use Prim.Native.Nat.{ℕ, zero, suc, _*_, _%_, _^_, _<_}
 use native.Mathlib.Nat.{one-mul, mod-eq-of-lt}
-use mathlib.Core.Path.{_≡_, refl, sym, ap, _∙_, subst}
-use mathlib.Core.Bool.{Bool, true, false, not, _||_}
+use mathlib.Core.Path.{_≡_, refl, sym, subst}
+use mathlib.Core.Bool.{Bool, true, false, not}
 use mathlib.Core.List.{List, [], _∷_}
 use lib.ListN.{getD}
 use lib.Dec.{T}

@@ -17,6 +17,7 @@ pub data Answer : Type 0 where
   accepted : Snapshot → Answer
   refused : Refusal → ℕ → Answer
 
+-- no bytes are left
 abbrev pub isNil : List ℕ → Bool
 isNil [] = true
 isNil (b ∷ bs) = false
@@ -55,13 +56,15 @@ addRoute [] r = []
 addRoute (p ∷ []) r = record { address = p .address; bits = p .bits; routes = p .routes ++ (r ∷ []) } ∷ []
 addRoute (p ∷ q ∷ ps) r = p ∷ addRoute (q ∷ ps) r
 
+-- a snapshot with other prefixes
 abbrev pub withPrefixes : Snapshot → List Prefix → Snapshot
 withPrefixes s ps = record { ids = s .ids; distances = s .distances; prefixes = ps }
 
--- the prefix, and the route, of a record's values
+-- the prefix of a record's values, as yet without routes
 abbrev pub prefixOf : List ℕ → Prefix
 prefixOf v = record { address = getD v 0 0; bits = getD v 1 0; routes = [] }
 
+-- the route of a record's values
 abbrev pub routeOf : List ℕ → Route
 routeOf v = record {
   router = getD v 0 0;
@@ -79,9 +82,11 @@ routeOf v = record {
 abbrev pub prefixExtra : Snapshot → List Check
 prefixExtra s = (ltb (length (s .prefixes)) mostPrefixes else Full) ∷ []
 
+-- the checks of a prefix record's values
 abbrev pub prefixValues : Snapshot → List ℕ → List Check
 prefixValues s v = prefixChecks (s .prefixes) (getD v 0 0) (getD v 1 0)
 
+-- the checks of a prefix record
 unfoldable pub prefixRecord : Snapshot → List ℕ → List Check
 prefixRecord s = recordChecks prefixForm (prefixExtra s) (prefixValues s)
 
@@ -93,15 +98,19 @@ routeExtra s =
     ∷ (ltb (routesIn (s .prefixes)) mostRoutes else Full)
     ∷ []
 
+-- the checks of a route record's values
 abbrev pub routeValues : Snapshot → List ℕ → List Check
 routeValues s v = routeChecks (length (s .ids)) (openRoutes (s .prefixes)) (routeOf v)
 
+-- the checks of a route record
 unfoldable pub routeRecord : Snapshot → List ℕ → List Check
 routeRecord s = recordChecks routeForm (routeExtra s) (routeValues s)
 
+-- the check of the end record's value, with so many records before it
 abbrev pub endValues : ℕ → List ℕ → List Check
 endValues before v = endChecks before (getD v 0 0)
 
+-- the checks of the end record
 unfoldable pub endRecord : ℕ → List ℕ → List Check
 endRecord before = recordChecks endForm [] (endValues before)
 
@@ -117,10 +126,11 @@ item s at bs afterPrefix afterRoute =
     either (eqb (kind bs) (routeForm .kind)) (λ _. unless (routeRecord s bs) at afterRoute) λ _.
     unless (endRecord (records s) bs) at λ _. tail s (at + size endForm) (drop (size endForm) bs)
 
--- what was read so far, with the prefix, or the route, of the record at the front
+-- what was read so far, with the prefix of the record at the front
 abbrev pub withPrefix : Snapshot → List ℕ → Snapshot
 withPrefix s bs = withPrefixes s (s .prefixes ++ (prefixOf (values prefixForm bs) ∷ []))
 
+-- what was read so far, with the route of the record at the front
 abbrev pub withRoute : Snapshot → List ℕ → Snapshot
 withRoute s bs = withPrefixes s (addRoute (s .prefixes) (routeOf (values routeForm bs)))
 
@@ -132,17 +142,21 @@ itemsWithin (suc count) s at bs =
     (λ _. itemsWithin count (withPrefix s bs) (at + size prefixForm) (drop (size prefixForm) bs))
     (λ _. itemsWithin count (withRoute s bs) (at + size routeForm) (drop (size routeForm) bs))
 
+-- the items from a place on
 unfoldable pub items : Snapshot → ℕ → List ℕ → Answer
 items s at bs = itemsWithin (length bs) s at bs
 
 -- ---- the distances: `due` are the pairs yet to come, `ds` the distances read so far
 
+-- the checks of a distance record's values
 abbrev pub distanceValues : ℕ → Pair → List ℕ → List Check
 distanceValues n due v = distanceChecks n due (getD v 0 0) (getD v 1 0) (getD v 2 0)
 
+-- the checks of a distance record
 unfoldable pub distanceRecord : ℕ → Pair → List ℕ → List Check
 distanceRecord n due = recordChecks distanceForm [] (distanceValues n due)
 
+-- the distances from a place on, and then the items
 unfoldable pub distances : List Pair → List ℕ → List ℕ → ℕ → List ℕ → Answer
 distances [] ids ds at bs = items (record { ids = ids; distances = ds; prefixes = [] }) at bs
 distances (p ∷ due) ids ds at bs =
@@ -151,12 +165,15 @@ distances (p ∷ due) ids ds at bs =
 
 -- ---- the routers: `left` are yet to come, `ids` are the ids read so far
 
+-- the checks of a router record's values
 abbrev pub routerValues : ℕ → List ℕ → List ℕ → List Check
 routerValues n ids v = routerChecks n ids (getD v 0 0) (getD v 1 0)
 
+-- the checks of a router record
 unfoldable pub routerRecord : ℕ → List ℕ → List ℕ → List Check
 routerRecord n ids = recordChecks routerForm [] (routerValues n ids)
 
+-- the routers from a place on, and then the distances
 unfoldable pub routers : ℕ → ℕ → List ℕ → ℕ → List ℕ → Answer
 routers n zero ids at bs = distances (pairs (length ids)) ids [] at bs
 routers n (suc left) ids at bs =
@@ -165,9 +182,11 @@ routers n (suc left) ids at bs =
 
 -- ---- the whole
 
+-- the check of the count record's value
 abbrev pub countValues : List ℕ → List Check
 countValues v = countChecks (getD v 0 0)
 
+-- the checks of the count record
 unfoldable pub countRecord : List ℕ → List Check
 countRecord = recordChecks countForm [] countValues
 

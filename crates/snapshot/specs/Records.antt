@@ -48,6 +48,7 @@ ofKind (f ∷ fs) k its otherwise = cond (eqb k (f .kind)) (its f) (ofKind fs k 
 abbrev pub known : ℕ → Bool
 known k = ofKind forms k (λ f. true) false
 
+-- the sum of a list
 abbrev pub sum : List ℕ → ℕ
 sum [] = 0
 sum (w ∷ ws) = w + sum ws
@@ -82,9 +83,10 @@ written f vs = f .kind ∷ spread (f .widths) vs
 abbrev pub valuesAt : Form → List ℕ → ℕ → List ℕ
 valuesAt f bs at = fields (f .widths) bs at 1
 
--- the kind and the values of the record with which bytes begin; the kind is 0 where there are none
+-- the kind of the record with which bytes begin; 0 where there are none
 abbrev pub kind : List ℕ → ℕ
 kind bs = getD bs 0 0
 
+-- the values of the record with which bytes begin
 abbrev pub values : Form → List ℕ → List ℕ
 values f bs = valuesAt f bs 0

@@ -1,5 +1,5 @@
 -- The lent tables: what each has room for, and what reading a snapshot leaves in them.
-use Prim.Native.Nat.{ℕ, _*_, _/_, _%_, _+_}
+use Prim.Native.Nat.{ℕ, _/_, _%_, _+_}
 use mathlib.Core.Path.{_≡_}
 use mathlib.Core.Bool.{Bool, cond, _&&_}
 use mathlib.Core.List.{List, [], _∷_, _++_, map}
@@ -33,16 +33,17 @@ pub record Tables : Type 0 where
   pub routes : List ℕ
   pub rows : Columns
 
--- the columns, and the tables, of these lists
+-- the columns of these lists
 abbrev pub columns : List ℕ → List ℕ → List ℕ → List ℕ → List ℕ → List ℕ → List ℕ → List ℕ → List ℕ → Columns
 columns router asn preference path origin mark med nid peer =
     record { router = router; asn = asn; preference = preference; path = path; origin = origin; mark = mark; med = med; nid = nid; peer = peer }
 
+-- the tables of these lists
 abbrev pub tables : List ℕ → List ℕ → List ℕ → List ℕ → List ℕ → Columns → Tables
 tables ids distances address bits routes rows =
     record { ids = ids; distances = distances; address = address; bits = bits; routes = routes; rows = rows }
 
--- ROOM: which tables are shorter than their limit
+-- which columns of routes are shorter than their limit
 abbrev pub shortColumns : Columns → List Bool
 shortColumns c =
     ltb (length (c .router)) mostRoutes
@@ -56,6 +57,7 @@ shortColumns c =
     ∷ ltb (length (c .peer)) mostRoutes
     ∷ []
 
+-- ROOM: which tables are shorter than their limit
 abbrev pub short : Tables → List Bool
 short t =
     ltb (length (t .ids)) mostRouters
@@ -112,9 +114,10 @@ countsOf s = record { routers = length (s .ids); prefixes = length (s .prefixes)
 abbrev pub Held : Counts → Tables → Snapshot → Type 0
 Held counts t s = (counts ≡ countsOf s) × (filled s t ≡ t)
 
--- the routes of the prefix of a number, and what that prefix is decided on
+-- the routes of the prefix of a number
 abbrev pub routesOf : Snapshot → ℕ → List Route
 routesOf s p = getD (map (λ q. q .routes) (s .prefixes)) p []
 
+-- what the prefix of a number is decided on
 abbrev pub mesh : Snapshot → ℕ → Mesh
 mesh s p = meshOf (s .ids) (distance s) (routesOf s p)

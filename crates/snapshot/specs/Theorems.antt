@@ -12,6 +12,8 @@ use Rattle.snapshot.specs.Reading.{accepted, reading}
 use Rattle.snapshot.specs.AcceptsLaws.{reading-sound}
 use Rattle.snapshot.specs.ReturnsLaws.{reading-back}
 use Rattle.snapshot.specs.WrittenLaws as written
+use Rattle.snapshot.specs.Longest.{fullSnapshot}
+use Rattle.snapshot.specs.LongestLaws.{full-valid, full-long}
 use Rattle.snapshot.specs.BorderLaws.{reading-take}
 use Rattle.snapshot.specs.Examples as examples
 
@@ -34,9 +36,13 @@ tells = written.encode-injective
 pub bytes : (s : Snapshot) → T (areBytes (encode s))
 bytes = written.encode-bytes
 
--- "The longest snapshot is therefore 53,575 bytes": none is longer.
+-- "The longest snapshot is therefore 53,575 bytes": none is longer,
 pub none-longer : (s : Snapshot) → Valid s → length (encode s) ≤ longest
 none-longer = written.encode-short
+
+-- and one has that length.
+pub one-as-long : Valid fullSnapshot × (length (encode fullSnapshot) ≡ longest)
+one-as-long = (full-valid, full-long)
 
 -- "and the first 53,576 bytes of an input decide its answer"
 pub first-bytes-decide : (bs : List ℕ) → reading bs ≡ reading (take (suc longest) bs)

@@ -4,7 +4,7 @@ use Prim.Native.Char.{code}
 use Prim.Native.String as string
 use mathlib.Core.Path.{_≡_}
 use mathlib.Core.Bool.{cond}
-use mathlib.Core.List.{List, [], _∷_}
+use mathlib.Core.List.{List, [], _∷_, _++_}
 use lib.Dec.{ltb}
 use lib.ListN.{length}
 use lib.Seq.{sets}
@@ -31,6 +31,11 @@ width n = widthFrom n 1 n
 -- a number in decimal, with no leading zeros
 unfoldable pub decimal : ℕ → List ℕ
 decimal n = digits (width n) n
+
+-- one text after the other, for each number of a list
+abbrev pub each : (ℕ → List ℕ) → List ℕ → List ℕ
+each text [] = []
+each text (r ∷ rs) = text r ++ each text rs
 
 -- a text was put into a buffer from a place on; `end` is the place after it, and all other bytes are as before
 pub record Puts (before after : List ℕ) (at end : ℕ) (text : List ℕ) : Type 0 where

@@ -1,8 +1,7 @@
 -- `group::lower` meets its contract. Each bucket has the least key of the kept rows before q that are in it. Assumes nothing.
-use Prim.Native.Nat.{ℕ, _-_, _<_}
+use Prim.Native.Nat.{_-_, _<_}
 use native.Mathlib.Omega.{arith}
-use mathlib.Core.Path.{_≡_, refl, sym, _∙_, ap}
-use mathlib.Core.List.{List}
+use mathlib.Core.Path.{refl, sym, _∙_, ap}
 use lib.ListN.{length}
 use lib.Dec.{eqb}
 use denote.Ref.{now}

@@ -1,0 +1,100 @@
+//! One snapshot with the tables of both sides, plain and proved: first the same answers, then runs to be timed.
+
+use crate::clock::Run;
+use crate::proved;
+use plain::{forecast, read, write, Counts, Lent, LONGEST};
+use std::hint::black_box;
+
+/// What tables hold before they are first read into, so that a row too many is seen.
+const BEFORE: u32 = 0xeeee_eeee;
+
+pub struct Sides {
+    input: Vec<u8>,
+    counts: Counts,
+    plain: Lent,
+    proved: Lent,
+}
+
+impl Sides {
+    /// Reads the snapshot on both sides, and compares the tables and everything that is made from them.
+    pub fn new(input: Vec<u8>) -> Result<Sides, String> {
+        let (mut plain, mut proved) = (Lent::filled(BEFORE), Lent::filled(BEFORE));
+        let counts = read(&input, &mut plain.tables()).map_err(|refusal| format!("plain refuses: {refusal:?}"))?;
+        same(proved::read(&input, &mut proved) == Ok(counts) && plain.0 == proved.0, "reading")?;
+        let mut sides = Sides { input, counts, plain, proved };
+        sides.compare_writing()?;
+        (0..=counts.prefixes).try_for_each(|prefix| sides.compare_forecast(prefix))?;
+        Ok(sides)
+    }
+
+    pub fn prefixes(&self) -> usize {
+        self.counts.prefixes
+    }
+
+    fn compare_writing(&mut self) -> Result<(), String> {
+        let (mut plain, mut proved) = (vec![0; LONGEST], vec![0; LONGEST]);
+        let length = write(self.counts, &self.plain.tables(), &mut plain).map_err(|refusal| format!("{refusal:?}"))?;
+        let given = proved::write(self.counts, &mut self.proved, &mut proved);
+        same(given == length && proved == plain && proved[..length] == self.input, "writing")
+    }
+
+    /// Numbers and all entries of the answers; at the number of prefixes itself, the refusal.
+    fn compare_forecast(&mut self, prefix: usize) -> Result<(), String> {
+        let (mut plain, mut proved) = (([7; 64], [7; 64]), ([7; 64], [7; 64]));
+        let outlook = forecast(self.counts, &self.plain.tables(), prefix, &mut plain.0, &mut plain.1);
+        let wanted = outlook.map_or_else(|refusal| 100 + refusal.0, |outlook| outlook.open);
+        let given = proved::forecast(self.counts, &mut self.proved, prefix, &mut proved.0, &mut proved.1);
+        same(given == wanted && proved == plain, "forecasting")
+    }
+
+    pub fn reading(&mut self) -> [Run<'_>; 2] {
+        let Sides { input, plain, proved, .. } = self;
+        let input: &[u8] = input;
+        let plain = move || {
+            let _ = black_box(read(black_box(input), &mut plain.tables()));
+        };
+        let proved = move || {
+            let _ = black_box(proved::read(black_box(input), proved));
+        };
+        [Box::new(plain), Box::new(proved)]
+    }
+
+    pub fn writing(&mut self) -> [Run<'_>; 2] {
+        let Sides { counts, plain, proved, .. } = self;
+        let counts = *counts;
+        let (mut plain_out, mut proved_out) = (vec![0; LONGEST], vec![0; LONGEST]);
+        let plain = move || {
+            let _ = black_box(write(black_box(counts), &plain.tables(), &mut plain_out));
+        };
+        let proved = move || {
+            let _ = black_box(proved::write(black_box(counts), proved, &mut proved_out));
+        };
+        [Box::new(plain), Box::new(proved)]
+    }
+
+    /// All prefixes, each by a call of its own.
+    pub fn forecasting(&mut self) -> [Run<'_>; 2] {
+        let Sides { counts, plain, proved, .. } = self;
+        let counts = *counts;
+        let (mut early, mut late) = ([0; 64], [0; 64]);
+        let plain = move || {
+            for prefix in 0..counts.prefixes {
+                let _ = black_box(forecast(black_box(counts), &plain.tables(), prefix, &mut early, &mut late));
+            }
+        };
+        let proved = move || {
+            for prefix in 0..counts.prefixes {
+                let _ = black_box(proved::forecast(black_box(counts), proved, prefix, &mut early, &mut late));
+            }
+        };
+        [Box::new(plain), Box::new(proved)]
+    }
+}
+
+fn same(same: bool, what: &str) -> Result<(), String> {
+    if same {
+        Ok(())
+    } else {
+        Err(format!("{what} gives something else on the two sides"))
+    }
+}

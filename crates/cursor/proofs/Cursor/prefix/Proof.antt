@@ -1,0 +1,70 @@
+-- `prefix` meets its contract: the record is judged by its opening, then by its values. Assumes nothing.
+use borrow.Author.Needs.{needs}
+use native.Mathlib.Omega.{arith}
+use denote.Ref.{now}
+use mathlib.Core.Path.{_≡_, refl, sym, ap, _∙_}
+use Prim.Native.Nat.{_+_, _<_}
+use mathlib.Core.Bool.{false}
+use lib.ListN.{length}
+use Rattle.cursor.specs.declared.Finding.the-variants.{Clear}
+use Rattle.cursor.specs.declared.PrefixStep.the-variants.{Took, Refused}
+use Rattle.cursor.specs.StepsLaws.{opened, at-opening, at-values, at-end}
+use mathlib.Core.Path.{ap₂}
+use lib.Dec.{leb}
+use Rattle.snapshot.specs.Limits.{mostPrefixes}
+use Rattle.snapshot.specs.Records.{prefixForm, valuesAt}
+use Rattle.snapshot.specs.Reading.{prefixExtra, prefixValues, prefixRecord}
+use Rattle.cursor.specs.declared.Network.{Network}
+use Rattle.cursor.specs.Steps.{finding, bodyLength, openingChecks, after, prefixFaults, networkAt}
+use Rattle.cursor.specs.StepsLaws.{prefix-extra, prefix-values}
+use Rattle.cursor.proofs.Cursor.prefix.Statement.{statement}
+use Rattle.cursor.proofs.Cursor.prefix.Tie as tie
+
+abbrev start : tie.After-enum-told → tie.Start
+start c = search needs
+
+clear : (c : tie.After-enum-told) → let s = start c in Clear ≡ finding (openingChecks (now (s .args .input)) (s .args .self .at) 4 (false) (leb mostPrefixes (s .args .k .prefixes)))
+clear c = let o : tie.After-opening = search needs in sym (c .enum-told .given .1) ∙ o .opening .ensures
+
+whole : (c : tie.After-enum-told) → let s = start c in s .args .self .at + bodyLength 4 < length (now (s .args .input))
+whole c = let s = start c in opened (now (s .args .input)) (s .args .self .at) 4 (false) (leb mostPrefixes (s .args .k .prefixes)) (clear c)
+
+pub prefix-spec : {M : Type 1} → statement M
+unfolding prefixRecord
+prefix-spec =
+    tie.close
+    (tie.spec
+    (λ c κs. search needs)
+    (λ c. search needs)
+    (λ c. search needs)
+    (λ c κs. omega (arith, whole (search needs)))
+    (λ c κs. search needs)
+    (λ c. search needs)
+    (λ c. search needs)
+    (λ c κs. (search needs, omega (arith, whole (search needs)), omega arith))
+    (λ c.
+    let s : tie.Start = search needs in
+    let o : tie.After-opening = search needs in
+    let bs = now (s .args .input) in
+    let at = s .args .self .at in
+    let k = s .args .k in
+    λ t h. at-opening bs at prefixForm (prefixExtra t) (false) (leb mostPrefixes (k .prefixes)) (prefixValues t) (λ f. Refused f at) (λ _. Took (after (s .args .self) prefixForm) (networkAt bs at)) refl (prefix-extra h _) (sym (c .before .f .given .1) ∙ o .opening .ensures))
+    (λ c.
+    let s : tie.Start = search needs in
+    let o : tie.After-opening = search needs in
+    let bs = now (s .args .input) in
+    let at = s .args .self .at in
+    let v : tie.After-prefix-faults = search needs in
+    let g : tie.After-network-at = search needs in
+    let k = s .args .k in
+    λ t h. at-values bs at prefixForm (prefixExtra t) (false) (leb mostPrefixes (k .prefixes)) (prefixValues t) (λ f. Refused f at) (λ _. Took (after (s .args .self) prefixForm) (networkAt bs at)) refl (prefix-extra h _) (clear (search needs)) (sym (c .before .f2 .given .1) ∙ v .prefix-faults .ensures ∙ ap (λ (p : Network). finding (prefixFaults k (p .address) (p .bits))) (g .network-at .ensures) ∙ ap finding (sym (prefix-values h (valuesAt prefixForm bs at)))))
+    (λ c.
+    let s : tie.Start = search needs in
+    let o : tie.After-opening = search needs in
+    let bs = now (s .args .input) in
+    let at = s .args .self .at in
+    let v : tie.After-prefix-faults = search needs in
+    let g : tie.After-network-at = search needs in
+    let e : tie.After-enum-told2 = search needs in
+    let k = s .args .k in
+    λ t h. ap₂ Took (c .past .ensures) (g .network-at .ensures) ∙ at-end bs at prefixForm (prefixExtra t) (false) (leb mostPrefixes (k .prefixes)) (prefixValues t) (λ f. Refused f at) (λ _. Took (after (s .args .self) prefixForm) (networkAt bs at)) refl (prefix-extra h _) (clear (search needs)) (sym (e .enum-told2 .given .1) ∙ v .prefix-faults .ensures ∙ ap (λ (p : Network). finding (prefixFaults k (p .address) (p .bits))) (g .network-at .ensures) ∙ ap finding (sym (prefix-values h (valuesAt prefixForm bs at))))))

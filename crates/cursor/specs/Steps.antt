@@ -1,0 +1,115 @@
+-- What the cursor's methods answer, as the definitions of the snapshot have it.
+use Prim.Native.Nat.{ℕ, _+_}
+use mathlib.Core.Path.{_≡_}
+use mathlib.Core.Bool.{Bool, cond, not, _&&_}
+use mathlib.Core.List.{List, [], _∷_}
+use lib.ListN.{length, getD}
+use lib.Dec.{ltb, eqb}
+use Rattle.refusal.specs.declared.Refusal.the-variants.{Cut, Kind, Place, Full, Field, Order, Tail}
+use Rattle.snapshot.specs.declared.Route.{Route}
+use Rattle.model.specs.Decision as model
+use Rattle.snapshot.specs.Ranges.{none, prefixTests, routeTests, rises, risesRoute}
+use Rattle.snapshot.specs.Records.{Form, forms, ofKind, known, sum, size, prefixForm, routeForm, valuesAt}
+use Rattle.snapshot.specs.Format.{Pair, Snapshot, routesIn, latest, Check, _else_}
+use Rattle.snapshot.specs.Reading.{openRoutes}
+use Rattle.cursor.specs.declared.Finding.{Finding}
+use Rattle.cursor.specs.declared.Finding.the-variants.{Clear, Fault}
+use Rattle.cursor.specs.declared.Body.{Body}
+use Rattle.cursor.specs.declared.Body.the-variants.{Bytes, Refused}
+use Rattle.cursor.specs.declared.Cursor.{Cursor}
+use Rattle.cursor.specs.declared.Sofar.{Sofar}
+use Rattle.cursor.specs.declared.Network.{Network}
+use Rattle.cursor.specs.declared.EndStep.{EndStep}
+use Rattle.cursor.specs.declared.EndStep.the-variants as endStep
+
+-- what checks find: nothing, or the refusal of the first that fails
+abbrev pub finding : List Check → Finding
+finding [] = Clear
+finding ((b else r) ∷ checks) = cond b (finding checks) (Fault r)
+
+-- the length of the body of a kind, or KIND
+abbrev pub bodyOf : ℕ → Body
+bodyOf k = ofKind forms k (λ f. Bytes (sum (f .widths))) (Refused Kind)
+
+-- the length of the body of a kind, 0 where it is not known
+abbrev pub bodyLength : ℕ → ℕ
+bodyLength k = ofKind forms k (λ f. sum (f .widths)) 0
+
+-- the checks of every record before its values: CUT for the kind byte, KIND, PLACE, FULL, CUT for the body
+abbrev pub openingChecks : List ℕ → ℕ → ℕ → Bool → Bool → List Check
+openingChecks bs at due astray full =
+    let k = getD bs at 0 in
+    (ltb at (length bs) else Cut)
+    ∷ (known k else Kind)
+    ∷ (eqb k due else Place)
+    ∷ (not astray else Place)
+    ∷ (not full else Full)
+    ∷ (ltb (at + bodyLength k) (length bs) else Cut)
+    ∷ []
+
+-- the cursor before the first record
+abbrev pub begin : Cursor
+begin = record { at = 0; records = 0 }
+
+-- the cursor behind a record of so many bytes
+abbrev pub behind : Cursor → ℕ → Cursor
+behind c n = record { at = c .at + n; records = c .records + 1 }
+
+-- the cursor behind a record of a form
+abbrev pub after : Cursor → Form → Cursor
+after c f = behind c (size f)
+
+-- the pair of routers whose distance is due
+abbrev pub due : ℕ → ℕ → Pair
+due from to = record { from = from; to = to }
+
+-- the next pair of numbers does not rise above the latest of so many
+abbrev pub lateBehind : ℕ → ℕ → ℕ → ℕ → ℕ → Bool
+lateBehind before a b c d = not (eqb before 0) && not (rises a b c d)
+
+-- the checks of a prefix's values, by what is known of those before it
+abbrev pub prefixFaults : Sofar → ℕ → ℕ → List Check
+prefixFaults k address bits =
+    (none (prefixTests address bits) else Field)
+    ∷ (not (lateBehind (k .prefixes) (k .address) (k .bits) address bits) else Order)
+    ∷ []
+
+-- the checks of a route's values, by what is known of those before it
+abbrev pub routeFaults : Sofar → model.Route → List Check
+routeFaults k r =
+    (none (routeTests (k .routers) r) else Field)
+    ∷ (not (lateBehind (k .inside) (k .router) (k .peer) (r .router) (r .peer)) else Order)
+    ∷ []
+
+-- the prefix of the record at a place
+abbrev pub networkAt : List ℕ → ℕ → Network
+networkAt bs at = let v = valuesAt prefixForm bs at in record { address = getD v 0 0; bits = getD v 1 0 }
+
+-- the route of the record at a place
+abbrev pub routeAt : List ℕ → ℕ → Route
+routeAt bs at = let v = valuesAt routeForm bs at in record {
+  router = getD v 0 0;
+  asn = getD v 1 0;
+  preference = getD v 2 0;
+  path = getD v 3 0;
+  origin = getD v 4 0;
+  mark = getD v 5 0;
+  med = getD v 6 0;
+  nid = getD v 7 0;
+  peer = getD v 8 0;
+}
+
+-- `k` says what is to be known of the snapshot read so far
+pub record Tells (s : Snapshot) (k : Sofar) : Type 0 where
+  pub routers : k .routers ≡ length (s .ids)
+  pub prefixes : k .prefixes ≡ length (s .prefixes)
+  pub routes : k .routes ≡ routesIn (s .prefixes)
+  pub inside : k .inside ≡ length (openRoutes (s .prefixes))
+  pub above : (address bits : ℕ)
+      → latest (λ p. rises (p .address) (p .bits) address bits) (s .prefixes) ≡ not (lateBehind (k .prefixes) (k .address) (k .bits) address bits)
+  pub beyond : (r : model.Route)
+      → latest (λ q. risesRoute q r) (openRoutes (s .prefixes)) ≡ not (lateBehind (k .inside) (k .router) (k .peer) (r .router) (r .peer))
+
+-- after the end record: nothing
+abbrev pub tailStep : List ℕ → ℕ → EndStep
+tailStep bs at = cond (ltb at (length bs)) (endStep.Refused Tail at) endStep.Ended

@@ -1,0 +1,407 @@
+// The reader's place in a snapshot. A cursor is passed by value; each of its methods judges the record at its place as one kind of
+// record and hands back the next cursor with what the record says, or a refusal with its place.
+ghost use mathlib.Core.Path.{_≡_};
+ghost use mathlib.Core.Bool.{cond};
+ghost use Prim.Native.Nat.{_+_, _≤_};
+ghost use lib.Dec.{eqb};
+ghost use lib.ListN.{length, getD, take, drop};
+ghost use Rattle.model.specs.Rows.{some};
+ghost use Rattle.snapshot.specs.Plain.{routeIs};
+ghost use Rattle.snapshot.specs.Records.{countForm, routerForm, distanceForm, prefixForm, routeForm, valuesAt};
+ghost use Rattle.snapshot.specs.Format.{Snapshot, judged, countChecks, routerChecks, distanceChecks, endChecks};
+ghost use Rattle.snapshot.specs.Reading.{countRecord, routerRecord, distanceRecord, prefixRecord, routeRecord, endRecord};
+ghost use Rattle.cursor.specs.declared.Finding.the-variants.{Fault};
+ghost use Rattle.cursor.specs.declared.Step.the-variants as step;
+ghost use Rattle.cursor.specs.declared.PrefixStep.the-variants as prefixStep;
+ghost use Rattle.cursor.specs.declared.RouteStep.the-variants as routeStep;
+ghost use Rattle.cursor.specs.declared.EndStep.the-variants as endStep;
+ghost use Rattle.cursor.specs.Steps.{
+  finding,
+  bodyOf,
+  openingChecks,
+  behind,
+  begin,
+  after,
+  due,
+  prefixFaults,
+  routeFaults,
+  networkAt,
+  routeAt,
+  Tells,
+  tailStep,
+};
+use refusal::Refusal;
+use snapshot::Route;
+
+// What a list of checks finds: nothing, or the refusal of the first that fails.
+pub enum Finding {
+    Clear,
+    Fault(Refusal),
+}
+
+// The length of a body, or the refusal of its kind.
+pub enum Body {
+    Bytes(usize),
+    Refused(Refusal),
+}
+
+// A place between records, and how many records stand before it.
+pub struct Cursor {
+    pub at: usize,
+    pub records: usize,
+}
+
+// What the prefixes and routes read so far say about the next: how many there are, the latest prefix, and the latest route in it.
+pub struct Sofar {
+    pub routers: u32,
+    pub prefixes: u32,
+    pub routes: u32,
+    pub inside: u32,
+    pub address: u32,
+    pub bits: u32,
+    pub router: u32,
+    pub peer: u32,
+}
+
+// A prefix without its routes.
+pub struct Network {
+    pub address: u32,
+    pub bits: u32,
+}
+
+// The answer to a record that says one number: a count of routers, a router's id, a distance.
+pub enum Step {
+    Took(Cursor, u32),
+    Refused(Refusal, usize),
+}
+
+pub enum PrefixStep {
+    Took(Cursor, Network),
+    Refused(Refusal, usize),
+}
+
+pub enum RouteStep {
+    Took(Cursor, Route),
+    Refused(Refusal, usize),
+}
+
+pub enum EndStep {
+    Ended,
+    Refused(Refusal, usize),
+}
+
+// Kinds 0 and 7 to 255 are refused as KIND.
+fn body_length(kind: u8) -> Body
+    ensures { λ r. ⌜ r ≡ bodyOf kind ⌝ }
+{
+    match kind {
+        1 => Body::Bytes(1),
+        2 => Body::Bytes(5),
+        3 => Body::Bytes(6),
+        4 => Body::Bytes(5),
+        5 => Body::Bytes(23),
+        6 => Body::Bytes(4),
+        0 | 7..=255 => Body::Refused(Refusal::Kind),
+    }
+}
+
+// One check before the rest of them.
+fn check(holds: bool, refusal: Refusal, rest: Finding) -> Finding
+    ensures { λ r. ⌜ r ≡ cond holds rest (Fault refusal) ⌝ }
+{
+    if holds { rest } else { Finding::Fault(refusal) }
+}
+
+fn count_faults(n: u32) -> Finding
+    ensures { λ r. ⌜ r ≡ finding (countChecks n) ⌝ }
+{
+    check(!snapshot::count_bad(n), Refusal::Field, Finding::Clear)
+}
+
+// Whether an id is among the first `given` ones.
+fn twin(ids: &[u32], given: usize, id: u32) -> bool
+    requires { ⌜ given ≤ length (now ids) ⌝ }
+    ensures { λ r. ⌜ r ≡ some (eqb id) (take given (now (ids .entry))) ⌝ }
+{
+    let mut k = 0;
+    while k < given {
+        if id == ids[k] {
+            return true;
+        }
+        k += 1;
+    }
+    false
+}
+
+fn router_faults(routers: u32, ids: &[u32], given: usize, index: u32, id: u32) -> Finding
+    requires { ⌜ given ≤ length (now ids) ⌝ }
+    ensures { λ r. ⌜ r ≡ finding (routerChecks routers (take given (now (ids .entry))) index id) ⌝ }
+{
+    let field = !((routers <= index) | snapshot::id_bad(id));
+    let alone = !twin(ids, given, id);
+    check(
+        field,
+        Refusal::Field,
+        check(
+            index as usize == given,
+            Refusal::Order,
+            check(alone, Refusal::Twin, Finding::Clear),
+        ),
+    )
+}
+
+fn distance_faults(
+    routers: u32,
+    expected_from: u32,
+    expected_to: u32,
+    from: u32,
+    to: u32,
+    distance: u32,
+) -> Finding
+    ensures { λ r. ⌜ r ≡ finding (distanceChecks routers (due «expected_from» «expected_to») from to distance) ⌝ }
+{
+    let field = !((routers <= from) | (routers <= to) | snapshot::distance_bad(distance));
+    check(
+        field,
+        Refusal::Field,
+        check(
+            from == expected_from,
+            Refusal::Order,
+            check(to == expected_to, Refusal::Order, Finding::Clear),
+        ),
+    )
+}
+
+fn prefix_faults(k: Sofar, p: Network) -> Finding
+    ensures { λ r. ⌜ r ≡ finding (prefixFaults k (p .address) (p .bits)) ⌝ }
+{
+    let field = !snapshot::prefix_bad(p.address, p.bits);
+    let order = !((k.prefixes != 0) & snapshot::late(k.address, k.bits, p.address, p.bits));
+    check(
+        field,
+        Refusal::Field,
+        check(order, Refusal::Order, Finding::Clear),
+    )
+}
+
+fn route_faults(k: Sofar, r: Route) -> Finding
+    ensures { λ f. ⌜ f ≡ finding (routeFaults k (routeIs r)) ⌝ }
+{
+    let field = !snapshot::route_bad(k.routers, r);
+    let order = !((k.inside != 0) & snapshot::late(k.router, k.peer, r.router, r.peer));
+    check(
+        field,
+        Refusal::Field,
+        check(order, Refusal::Order, Finding::Clear),
+    )
+}
+
+fn end_faults(records: usize, number: u32) -> Finding
+    ensures { λ r. ⌜ r ≡ finding (endChecks records number) ⌝ }
+{
+    check(number as usize == records, Refusal::Count, Finding::Clear)
+}
+
+// The prefix of the record at a place.
+pub fn network_at(input: &[u8], at: usize) -> Network
+    requires { ⌜ at + 6 ≤ length (now input) ⌝ }
+    ensures { λ r. ⌜ r ≡ networkAt (now (input .entry)) at ⌝ }
+{
+    Network {
+        address: wire::get32(input, at + 1),
+        bits: wire::get8(input, at + 5),
+    }
+}
+
+// The route of the record at a place.
+pub fn route_at(input: &[u8], at: usize) -> Route
+    requires { ⌜ at + 24 ≤ length (now input) ⌝ }
+    ensures { λ r. ⌜ r ≡ routeAt (now (input .entry)) at ⌝ }
+{
+    Route {
+        router: wire::get8(input, at + 1),
+        asn: wire::get16(input, at + 2),
+        preference: wire::get32(input, at + 4),
+        path: wire::get16(input, at + 8),
+        origin: wire::get8(input, at + 10),
+        mark: wire::get8(input, at + 11),
+        med: wire::get32(input, at + 12),
+        nid: wire::get32(input, at + 16),
+        peer: wire::get32(input, at + 20),
+    }
+}
+
+// The kind byte at a place; 0, which is no kind, where there is none.
+pub fn kind_at(input: &[u8], at: usize) -> u8
+    ensures { λ r. ⌜ r ≡ getD (now (input .entry)) at 0 ⌝ }
+{
+    if at < input.len() {
+        return input[at];
+    }
+    0
+}
+
+impl Cursor {
+    // The checks that every record has before its values: CUT for the kind byte, KIND, PLACE, FULL, CUT for the body.
+    fn opening(self, input: &[u8], due: u8, astray: bool, full: bool) -> Finding
+        ensures { λ r. ⌜ r ≡ finding (openingChecks (now (input .entry)) (self .at) due astray full) ⌝ }
+    {
+        let at = self.at;
+        if input.len() <= at {
+            return Finding::Fault(Refusal::Cut);
+        }
+        let kind = input[at];
+        match body_length(kind) {
+            Body::Refused(r) => Finding::Fault(r),
+            Body::Bytes(n) => {
+                let whole = at + n < input.len();
+                let body = check(whole, Refusal::Cut, Finding::Clear);
+                check(
+                    kind == due,
+                    Refusal::Place,
+                    check(!astray, Refusal::Place, check(!full, Refusal::Full, body)),
+                )
+            }
+        }
+    }
+
+    // The cursor behind a record of so many bytes.
+    fn past(self, size: usize) -> Cursor
+        requires { ⌜ (self .records ≤ self .at) × (self .at + size ≤ 9223372036854775807) × (1 ≤ size) ⌝ }
+        ensures { λ r. ⌜ r ≡ behind self size ⌝ }
+    {
+        Cursor {
+            at: self.at + size,
+            records: self.records + 1,
+        }
+    }
+
+    // Kind 1: the number of routers.
+    pub fn count(self, input: &[u8]) -> Step
+        requires { ⌜ self .records ≤ self .at ⌝ }
+        ensures { λ r. ⌜ r ≡ judged (countRecord (drop (self .at) (now (input .entry))))
+            (λ f. step.Refused f (self .at))
+            (λ _. step.Took (after self countForm) (getD (valuesAt countForm (now (input .entry)) (self .at)) 0 0)) ⌝ }
+    {
+        let at = self.at;
+        match self.opening(input, 1, false, false) {
+            Finding::Fault(f) => Step::Refused(f, at),
+            Finding::Clear => {
+                let n = wire::get8(input, at + 1);
+                match count_faults(n) {
+                    Finding::Fault(f) => Step::Refused(f, at),
+                    Finding::Clear => Step::Took(self.past(2), n),
+                }
+            }
+        }
+    }
+
+    // Kind 2: the id of the router whose index is due, where `given` ids stand before it.
+    pub fn router(self, input: &[u8], routers: u32, ids: &[u32], given: usize) -> Step
+        requires { ⌜ (self .records ≤ self .at) × (given ≤ length (now ids)) ⌝ }
+        ensures { λ r. ⌜ r ≡ judged (routerRecord routers (take given (now (ids .entry))) (drop (self .at) (now (input .entry))))
+            (λ f. step.Refused f (self .at))
+            (λ _. step.Took (after self routerForm) (getD (valuesAt routerForm (now (input .entry)) (self .at)) 1 0)) ⌝ }
+    {
+        let at = self.at;
+        match self.opening(input, 2, false, false) {
+            Finding::Fault(f) => Step::Refused(f, at),
+            Finding::Clear => {
+                let id = wire::get32(input, at + 2);
+                match router_faults(routers, ids, given, wire::get8(input, at + 1), id) {
+                    Finding::Fault(f) => Step::Refused(f, at),
+                    Finding::Clear => Step::Took(self.past(6), id),
+                }
+            }
+        }
+    }
+
+    // Kind 3: the distance of the pair that is due.
+    pub fn distance(self, input: &[u8], routers: u32, from: u32, to: u32) -> Step
+        requires { ⌜ self .records ≤ self .at ⌝ }
+        ensures { λ r. ⌜ r ≡ judged (distanceRecord routers (due from to) (drop (self .at) (now (input .entry))))
+            (λ f. step.Refused f (self .at))
+            (λ _. step.Took (after self distanceForm) (getD (valuesAt distanceForm (now (input .entry)) (self .at)) 2 0)) ⌝ }
+    {
+        let at = self.at;
+        match self.opening(input, 3, false, false) {
+            Finding::Fault(f) => Step::Refused(f, at),
+            Finding::Clear => {
+                let distance = wire::get32(input, at + 3);
+                match distance_faults(
+                    routers,
+                    from,
+                    to,
+                    wire::get8(input, at + 1),
+                    wire::get8(input, at + 2),
+                    distance,
+                ) {
+                    Finding::Fault(f) => Step::Refused(f, at),
+                    Finding::Clear => Step::Took(self.past(7), distance),
+                }
+            }
+        }
+    }
+
+    // Kind 4: a prefix, behind what was read so far.
+    pub fn prefix(self, input: &[u8], k: Sofar) -> PrefixStep
+        requires { ⌜ self .records ≤ self .at ⌝ }
+        ensures { λ r. ⌜ ((s : Snapshot) → Tells s k → r ≡ judged (prefixRecord s (drop (self .at) (now (input .entry))))
+            (λ f. prefixStep.Refused f (self .at))
+            (λ _. prefixStep.Took (after self prefixForm) (networkAt (now (input .entry)) (self .at)))) ⌝ }
+    {
+        let at = self.at;
+        match self.opening(input, 4, false, snapshot::MOST_PREFIXES <= k.prefixes) {
+            Finding::Fault(f) => PrefixStep::Refused(f, at),
+            Finding::Clear => {
+                let p = network_at(input, at);
+                match prefix_faults(k, p) {
+                    Finding::Fault(f) => PrefixStep::Refused(f, at),
+                    Finding::Clear => PrefixStep::Took(self.past(6), p),
+                }
+            }
+        }
+    }
+
+    // Kind 5: a route, behind what was read so far.
+    pub fn route(self, input: &[u8], k: Sofar) -> RouteStep
+        requires { ⌜ self .records ≤ self .at ⌝ }
+        ensures { λ r. ⌜ ((s : Snapshot) → Tells s k → r ≡ judged (routeRecord s (drop (self .at) (now (input .entry))))
+            (λ f. routeStep.Refused f (self .at))
+            (λ _. routeStep.Took (after self routeForm) (routeAt (now (input .entry)) (self .at)))) ⌝ }
+    {
+        let at = self.at;
+        let full = (snapshot::MOST_IN_PREFIX <= k.inside) | (snapshot::MOST_ROUTES <= k.routes);
+        match self.opening(input, 5, k.prefixes == 0, full) {
+            Finding::Fault(f) => RouteStep::Refused(f, at),
+            Finding::Clear => {
+                let r = route_at(input, at);
+                match route_faults(k, r) {
+                    Finding::Fault(f) => RouteStep::Refused(f, at),
+                    Finding::Clear => RouteStep::Took(self.past(24), r),
+                }
+            }
+        }
+    }
+
+    // Kind 6: the end, and then nothing.
+    pub fn end(self, input: &[u8]) -> EndStep
+        ensures { λ r. ⌜ r ≡ judged (endRecord (self .records) (drop (self .at) (now (input .entry))))
+            (λ f. endStep.Refused f (self .at))
+            (λ _. tailStep (now (input .entry)) (self .at + 5)) ⌝ }
+    {
+        let at = self.at;
+        match self.opening(input, 6, false, false) {
+            Finding::Fault(f) => EndStep::Refused(f, at),
+            Finding::Clear => match end_faults(self.records, wire::get32(input, at + 1)) {
+                Finding::Fault(f) => EndStep::Refused(f, at),
+                Finding::Clear => {
+                    if at + 5 < input.len() {
+                        return EndStep::Refused(Refusal::Tail, at + 5);
+                    }
+                    EndStep::Ended
+                }
+            },
+        }
+    }
+}

@@ -1,0 +1,45 @@
+-- `fill_tables` meets its contract: each part fills its tables. Assumes nothing.
+use borrow.Author.Needs.{needs}
+use native.Mathlib.Omega.{arith}
+use denote.Ref.{now}
+use Rattle.snapshot.specs.Tables.{columns, tables}
+use Rattle.fill.specs.StoresLaws.{tables-filled}
+use Rattle.fill.proofs.fill_tables.Statement.{statement}
+use Rattle.fill.proofs.fill_tables.Tie as tie
+
+returns : tie.Need-returns
+returns c =
+    let p : tie.After-fill-prefixes = c .before .before .before .before .before .before .before .before .before .before .before .before .before .before .before .before .before .before .before .before .before .before .before .before in
+    let d : tie.After-fill-distances = p .before .before .before .before .before .before .before .before .before .before .before .before .before .before .before in
+    let i : tie.After-fill-ids = d .before .before .before .before in
+    let s : tie.Start = i .before .before .before .before .before .before .before .before .before .before .before .before .before .before .before .before .before in
+    tables-filled (now (s .args .input)) (s .args .n) (s .args .prefixes) (tables (now (s .args .ids)) (now (s .args .distances)) (now (s .args .address)) (now (s .args .bits)) (now (s .args .routes)) (columns (now (s .args .router)) (now (s .args .asn)) (now (s .args .preference)) (now (s .args .path)) (now (s .args .origin)) (now (s .args .mark)) (now (s .args .med)) (now (s .args .nid)) (now (s .args .peer)))) (i .fill-ids .ensures) (d .fill-distances .ensures) (p .fill-prefixes .ensures)
+
+pub fill-tables-spec : {M : Type 1} → statement M
+fill-tables-spec =
+    tie.close
+    (tie.spec
+    (λ c. search needs)
+    (λ c. search needs)
+    (λ c. let s : tie.Start = search needs in s .pre .0 .some)
+    (λ c. search needs)
+    (λ c. search needs)
+    (λ c. search needs)
+    (λ c κs. search needs)
+    (λ c κs. search needs)
+    (λ c κs. search needs)
+    (λ c. let i : tie.After-fill-ids = c .before .before .before .before .before .before .before .before .before .before .before .before .before .before .before .before .before .before .before .before .before .before .before .before .before .before .before .before .before .before .before .before .before .before .before .before .before .before .before .before .before .before .before in omega (arith, i .fill-ids .kept))
+    (λ c. let d : tie.After-fill-distances = c .before .before .before .before .before .before .before .before .before .before .before .before .before .before .before .before .before .before .before .before .before .before .before .before .before .before .before .before .before .before .before .before .before .before .before .before .before .before .before in omega (arith, d .fill-distances .kept))
+    (λ c. let p : tie.After-fill-prefixes = c .before .before .before .before .before .before .before .before .before .before .before .before .before .before .before .before .before .before .before .before .before .before .before .before in omega (arith, p .fill-prefixes .kept))
+    (λ c. let p : tie.After-fill-prefixes = c .before .before .before .before .before .before .before .before .before .before .before .before .before .before .before .before .before .before .before .before .before .before .before .before in omega (arith, p .fill-prefixes .kept))
+    (λ c. let p : tie.After-fill-prefixes = c .before .before .before .before .before .before .before .before .before .before .before .before .before .before .before .before .before .before .before .before .before .before .before .before in omega (arith, p .fill-prefixes .kept))
+    (λ c. let p : tie.After-fill-prefixes = c .before .before .before .before .before .before .before .before .before .before .before .before .before .before .before .before .before .before .before .before .before .before .before .before in omega (arith, p .fill-prefixes .kept))
+    (λ c. let p : tie.After-fill-prefixes = c .before .before .before .before .before .before .before .before .before .before .before .before .before .before .before .before .before .before .before .before .before .before .before .before in omega (arith, p .fill-prefixes .kept))
+    (λ c. let p : tie.After-fill-prefixes = c .before .before .before .before .before .before .before .before .before .before .before .before .before .before .before .before .before .before .before .before .before .before .before .before in omega (arith, p .fill-prefixes .kept))
+    (λ c. let p : tie.After-fill-prefixes = c .before .before .before .before .before .before .before .before .before .before .before .before .before .before .before .before .before .before .before .before .before .before .before .before in omega (arith, p .fill-prefixes .kept))
+    (λ c. let p : tie.After-fill-prefixes = c .before .before .before .before .before .before .before .before .before .before .before .before .before .before .before .before .before .before .before .before .before .before .before .before in omega (arith, p .fill-prefixes .kept))
+    (λ c. let p : tie.After-fill-prefixes = c .before .before .before .before .before .before .before .before .before .before .before .before .before .before .before .before .before .before .before .before .before .before .before .before in omega (arith, p .fill-prefixes .kept))
+    (λ c. let p : tie.After-fill-prefixes = c .before .before .before .before .before .before .before .before .before .before .before .before .before .before .before .before .before .before .before .before .before .before .before .before in omega (arith, p .fill-prefixes .kept))
+    (λ c. let p : tie.After-fill-prefixes = c .before .before .before .before .before .before .before .before .before .before .before .before .before .before .before .before .before .before .before .before .before .before .before .before in omega (arith, p .fill-prefixes .kept))
+    (λ c. let p : tie.After-fill-prefixes = c .before .before .before .before .before .before .before .before .before .before .before .before .before .before .before .before .before .before .before .before .before .before .before .before in omega (arith, p .fill-prefixes .kept))
+    returns)

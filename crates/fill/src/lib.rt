@@ -1,0 +1,293 @@
+// The second pass over a snapshot: what was judged sound is put into the lent tables.
+ghost use mathlib.Core.Path.{_≡_};
+ghost use mathlib.Core.Bool.{cond};
+ghost use mathlib.Core.List.{_∷_, []};
+ghost use Prim.Native.Nat.{_+_, _-_, _*_, _≤_, _<_};
+ghost use lib.Dec.{leb};
+ghost use lib.ListN.{length, set};
+ghost use lib.Seq.{sets};
+ghost use Rattle.model.specs.Rows.{table};
+ghost use Rattle.model.specs.Lent.{was, is};
+ghost use Rattle.snapshot.specs.Limits.{mostRouters, roomDistances, mostPrefixes, mostRoutes};
+ghost use Rattle.snapshot.specs.Plain.{routeIs};
+ghost use Rattle.snapshot.specs.Tables.{columns, tables, putRoutes};
+ghost use Rattle.fill.specs.Fill.{
+  idsIn,
+  distanceIn,
+  entryIn,
+  Spans,
+  isRoute,
+  routesFrom,
+  prefixesFrom,
+  lists,
+  putPrefixes,
+  filledFrom,
+  Wide,
+  WideLists,
+  WideTables,
+};
+use cursor::Network;
+use snapshot::Route;
+
+// Puts the ids of n routers into the front of a table.
+pub fn fill_ids(input: &[u8], n: usize, ids: &mut [u32])
+    requires { ⌜ Spans (now input) n × (mostRouters ≤ length (now ids)) ⌝ }
+    ensures { λ _. ⌜ is ids ≡ sets (was ids) 0 (idsIn (was input) n) ⌝ }
+{
+    let mut i = 0;
+    while i < n {
+        ids[i] = wire::get32(input, 6 * i + 4);
+        i += 1;
+    }
+}
+
+// How many pairs of a router come before the one with `to`.
+fn before_in_row(from: usize, to: usize) -> usize
+    ensures { λ r. ⌜ r ≡ cond (leb to from) to (to - 1) ⌝ }
+{
+    if to <= from {
+        return to;
+    }
+    to - 1
+}
+
+// The distance from one of n routers to another, 0 from one to itself.
+fn distance_in(input: &[u8], n: usize, from: usize, to: usize) -> u32
+    requires { ⌜ Spans (now input) n × (from < n) × (to < n) ⌝ }
+    ensures { λ r. ⌜ r ≡ distanceIn (was input) n from to ⌝ }
+{
+    if from == to {
+        return 0;
+    }
+    let before = from * (n - 1) + before_in_row(from, to);
+    wire::get32(input, 7 * before + (6 * n + 5))
+}
+
+// Puts the distances of n routers into a table, from times the stride, plus to; equal pairs hold 0.
+pub fn fill_distances(input: &[u8], n: usize, distances: &mut [u32])
+    requires { ⌜ Spans (now input) n × (roomDistances ≤ length (now distances)) ⌝ }
+    ensures { λ _. ⌜ is distances ≡ table (length (was distances)) (entryIn (was input) n (was distances)) ⌝ }
+{
+    let stride = snapshot::STRIDE;
+    let end = n * stride;
+    let mut k = 0;
+    while k < end {
+        let next = k + 1;
+        let from = k / stride;
+        let to = k % stride;
+        let unused = n <= to;
+        if unused {
+            k = next;
+            continue;
+        }
+        distances[k] = distance_in(input, n, from, to);
+        k = next;
+    }
+}
+
+// Puts a route into a row of the columns.
+fn put_route(
+    row: usize,
+    r: Route,
+    router: &mut [u32],
+    asn: &mut [u32],
+    preference: &mut [u32],
+    path: &mut [u32],
+    origin: &mut [u32],
+    mark: &mut [u32],
+    med: &mut [u32],
+    nid: &mut [u32],
+    peer: &mut [u32],
+)
+    requires { ⌜ Wide (row + 1) (columns (now router) (now asn) (now preference) (now path) (now origin) (now mark) (now med) (now nid) (now peer)) ⌝ }
+    ensures { λ _. ⌜ columns (is router) (is asn) (is preference) (is path) (is origin) (is mark) (is med) (is nid) (is peer)
+        ≡ putRoutes (columns (was router) (was asn) (was preference) (was path) (was origin) (was mark) (was med) (was nid) (was peer)) row (routeIs r ∷ []) ⌝ }
+{
+    router[row] = r.router;
+    asn[row] = r.asn;
+    preference[row] = r.preference;
+    path[row] = r.path;
+    origin[row] = r.origin;
+    mark[row] = r.mark;
+    med[row] = r.med;
+    nid[row] = r.nid;
+    peer[row] = r.peer;
+}
+
+// Whether a whole route record stands at a place.
+fn is_route(input: &[u8], at: usize) -> bool
+    requires { ⌜ at ≤ length (now input) ⌝ }
+    ensures { λ r. ⌜ r ≡ isRoute (was input) at ⌝ }
+{
+    let kind = cursor::kind_at(input, at);
+    (kind == 5) & (at + 24 <= input.len())
+}
+
+// Puts the routes that stand from a place on into the columns, from a row on and while there is room; returns the row behind them.
+pub fn fill_routes(
+    input: &[u8],
+    at: usize,
+    row: usize,
+    room: usize,
+    router: &mut [u32],
+    asn: &mut [u32],
+    preference: &mut [u32],
+    path: &mut [u32],
+    origin: &mut [u32],
+    mark: &mut [u32],
+    med: &mut [u32],
+    nid: &mut [u32],
+    peer: &mut [u32],
+) -> usize
+    requires { ⌜ (at ≤ length (now input)) × (row ≤ room) × Wide room (columns (now router) (now asn) (now preference) (now path) (now origin) (now mark) (now med) (now nid) (now peer)) ⌝ }
+    ensures { λ r. ⌜ (r ≡ row + length (routesFrom (room - row) (was input) at))
+        × (columns (is router) (is asn) (is preference) (is path) (is origin) (is mark) (is med) (is nid) (is peer)
+        ≡ putRoutes (columns (was router) (was asn) (was preference) (was path) (was origin) (was mark) (was med) (was nid) (was peer)) row (routesFrom (room - row) (was input) at)) ⌝ }
+{
+    let mut at = at;
+    let mut row = row;
+    while row < room {
+        if !is_route(input, at) {
+            return row;
+        }
+        let r = cursor::route_at(input, at);
+        let next = row + 1;
+        at += 24;
+        put_route(
+            row,
+            r,
+            router,
+            asn,
+            preference,
+            path,
+            origin,
+            mark,
+            med,
+            nid,
+            peer,
+        );
+        row = next;
+    }
+    row
+}
+
+// Puts a prefix and its number of routes into a row of the columns.
+fn put_prefix(
+    p: usize,
+    network: Network,
+    inside: u32,
+    address: &mut [u32],
+    bits: &mut [u32],
+    routes: &mut [u32],
+)
+    requires { ⌜ (p < length (now address)) × (p < length (now bits)) × (p < length (now routes)) ⌝ }
+    ensures { λ _. ⌜ (is address ≡ set (was address) p (network .address)) × (is bits ≡ set (was bits) p (network .bits)) × (is routes ≡ set (was routes) p inside) ⌝ }
+{
+    address[p] = network.address;
+    bits[p] = network.bits;
+    routes[p] = inside;
+}
+
+// Puts so many prefixes that stand from a place on, each with its routes, into the front of the columns.
+fn fill_prefixes(
+    input: &[u8],
+    at: usize,
+    prefixes: usize,
+    address: &mut [u32],
+    bits: &mut [u32],
+    routes: &mut [u32],
+    router: &mut [u32],
+    asn: &mut [u32],
+    preference: &mut [u32],
+    path: &mut [u32],
+    origin: &mut [u32],
+    mark: &mut [u32],
+    med: &mut [u32],
+    nid: &mut [u32],
+    peer: &mut [u32],
+)
+    requires { ⌜ (at ≤ length (now input)) × (prefixes ≤ mostPrefixes) × WideLists mostPrefixes (lists (now address) (now bits) (now routes)
+        (columns (now router) (now asn) (now preference) (now path) (now origin) (now mark) (now med) (now nid) (now peer))) ⌝ }
+    ensures { λ _. ⌜ lists (is address) (is bits) (is routes) (columns (is router) (is asn) (is preference) (is path) (is origin) (is mark) (is med) (is nid) (is peer))
+        ≡ putPrefixes (lists (was address) (was bits) (was routes) (columns (was router) (was asn) (was preference) (was path) (was origin) (was mark) (was med) (was nid) (was peer)))
+        (prefixesFrom prefixes (was input) at 0) ⌝ }
+{
+    let mut at = at;
+    let mut row = 0;
+    let mut p = 0;
+    while p < prefixes {
+        if input.len() < at + 6 {
+            return;
+        }
+        let next = p + 1;
+        let network = cursor::network_at(input, at);
+        let end = fill_routes(
+            input,
+            at + 6,
+            row,
+            snapshot::MOST_ROUTES as usize,
+            router,
+            asn,
+            preference,
+            path,
+            origin,
+            mark,
+            med,
+            nid,
+            peer,
+        );
+        let inside = end - row;
+        at += 6 + 24 * inside;
+        put_prefix(p, network, inside as u32, address, bits, routes);
+        row = end;
+        p = next;
+    }
+}
+
+// Puts a snapshot of n routers and so many prefixes into the tables.
+pub fn fill_tables(
+    input: &[u8],
+    n: usize,
+    prefixes: usize,
+    ids: &mut [u32],
+    distances: &mut [u32],
+    address: &mut [u32],
+    bits: &mut [u32],
+    routes: &mut [u32],
+    router: &mut [u32],
+    asn: &mut [u32],
+    preference: &mut [u32],
+    path: &mut [u32],
+    origin: &mut [u32],
+    mark: &mut [u32],
+    med: &mut [u32],
+    nid: &mut [u32],
+    peer: &mut [u32],
+)
+    requires { ⌜ Spans (now input) n × (prefixes ≤ mostPrefixes) × WideTables (tables (now ids) (now distances) (now address) (now bits) (now routes)
+        (columns (now router) (now asn) (now preference) (now path) (now origin) (now mark) (now med) (now nid) (now peer))) ⌝ }
+    ensures { λ _. ⌜ tables (is ids) (is distances) (is address) (is bits) (is routes) (columns (is router) (is asn) (is preference) (is path) (is origin) (is mark) (is med) (is nid) (is peer))
+        ≡ filledFrom (was input) n prefixes (tables (was ids) (was distances) (was address) (was bits) (was routes)
+        (columns (was router) (was asn) (was preference) (was path) (was origin) (was mark) (was med) (was nid) (was peer))) ⌝ }
+{
+    let at = 6 * n + 2 + 7 * (n * (n - 1));
+    fill_ids(input, n, ids);
+    fill_distances(input, n, distances);
+    fill_prefixes(
+        input,
+        at,
+        prefixes,
+        address,
+        bits,
+        routes,
+        router,
+        asn,
+        preference,
+        path,
+        origin,
+        mark,
+        med,
+        nid,
+        peer,
+    );
+}

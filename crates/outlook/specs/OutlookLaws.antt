@@ -1,0 +1,343 @@
+-- The promise of a forecast determines its answer and both areas, and its number says whether a second stable assignment exists.
+use Prim.Native.Nat.{ℕ, _+_, _-_, _≤_, _<_}
+use native.Mathlib.Omega.{arith}
+use mathlib.Core.Path.{_≡_, refl, sym, ap, ap₂, subst, _∙_, fun-ext}
+use mathlib.Core.Logic.{_↔_, inl, inr}
+use mathlib.Core.Bool.{Bool, true, false, true≢false, false≢true}
+use mathlib.Core.List.{List, _++_, map}
+use lib.ListN.{length, getD, drop, length-map, List·getD-eq-default}
+use lib.Dec.{eqb, ltb}
+use borrow.Author.Tests.{ltb-false, eqb-true}
+use lib.Seq.{sets, sets-eq, getD-take}
+use lib.Count.{ones}
+use Rattle.word.specs.Word.{word, differs, differingIn}
+use Rattle.word.specs.WordLaws.{ones-word}
+use Rattle.snapshot.specs.declared.Counts.{Counts}
+use Rattle.snapshot.specs.Format.{Snapshot, Valid}
+use Rattle.snapshot.specs.Limits.{mostRouters, mostRoutes}
+use Rattle.snapshot.specs.Ranges.{anyOf}
+use Rattle.snapshot.specs.RangesLaws.{none-at, none-any}
+use Rattle.snapshot.specs.Tables.{Tables, Held, routesOf, mesh}
+use Rattle.tables.specs.Theorems.{held-one, held-ids, held-distance, held-count, held-fits, held-column, routers-few, routes-few, absent-zero, sound}
+use Rattle.tables.specs.Judging.{Room, Holding, start}
+use Rattle.model.specs.Rows.{keep, span, table, column}
+use Rattle.model.specs.Decision.{Route, Mesh, metric, choice}
+use Rattle.model.specs.Stability.{Between, Only, available, differing}
+use Rattle.model.specs.Contest.{early, late, atPlace, holding, earliest, latest, contest}
+use Rattle.model.specs.Columns.{Columns, columns, lentMesh, ForecastRows, Placed}
+use Rattle.model.specs.MeshLaws.{Alike, sound-alike, between-alike}
+use Rattle.model.specs.RowLaws.{by, le-or-lt, table-length}
+use Rattle.model.specs.Theorems.{forecast, pair-determined, settled-only}
+use Rattle.outlook.specs.declared.Differing.{Differing}
+use Rattle.outlook.specs.declared.Outlook.{Outlook}
+use Rattle.outlook.specs.declared.Outlook.the-variants.{Forecast, Refused}
+use Rattle.outlook.specs.Outlook.{Forecasts, room, noSnapshot, noPrefix, given, differingOf, shortOf, cut, Decided, Shown, Part}
+
+-- ---- room
+
+module _ (t : Tables) (early late : List ℕ) (enough : anyOf (shortOf t early late) ≡ false) where
+  -- the k-th of the tables and areas has its limit
+  long : (k n most : ℕ) → getD (shortOf t early late) k false ≡ ltb n most → most ≤ n
+  long k n most e = ltb-false n most (sym e ∙ none-at (shortOf t early late) (none-any (shortOf t early late) enough) k)
+
+  pub has-room : Room t
+  has-room = record {
+    ids = long 0 _ _ refl;
+    distances = long 1 _ _ refl;
+    prefixes = record {
+      address = long 2 _ _ refl;
+      bits = long 3 _ _ refl;
+      routes = long 4 _ _ refl;
+      rows = record {
+        router = long 5 _ _ refl;
+        asn = long 6 _ _ refl;
+        preference = long 7 _ _ refl;
+        path = long 8 _ _ refl;
+        origin = long 9 _ _ refl;
+        mark = long 10 _ _ refl;
+        med = long 11 _ _ refl;
+        nid = long 12 _ _ refl;
+        peer = long 13 _ _ refl;
+      };
+    };
+  }
+
+  pub early-room : mostRouters ≤ length early
+  early-room = long 14 _ _ refl
+
+  pub late-room : mostRouters ≤ length late
+  late-room = long 15 _ _ refl
+
+-- ---- one answer
+
+-- the same answer and the same areas
+pub record Same (a b : Outlook) (early early′ late late′ : List ℕ) : Type 0 where
+  pub answer : a ≡ b
+  pub earlies : early ≡ early′
+  pub lates : late ≡ late′
+
+pub forecasts-one : {counts : Counts} {t : Tables} {p : ℕ} {early late : List ℕ} {a b : Outlook} {e l e′ l′ : List ℕ}
+    → Forecasts counts t p early late a e l → Forecasts counts t p early late b e′ l′ → Same a b e e′ l l′
+forecasts-one (room h) (room k) = record { answer = refl; earlies = refl; lates = refl }
+forecasts-one (room h) (noSnapshot k n) = absurd (true≢false (sym h ∙ k))
+forecasts-one (room h) (noPrefix k s v i m) = absurd (true≢false (sym h ∙ k))
+forecasts-one (room h) (given k s v i m e l b) = absurd (true≢false (sym h ∙ k))
+forecasts-one (noSnapshot h n) (room k) = absurd (true≢false (sym k ∙ h))
+forecasts-one (noSnapshot h n) (noSnapshot k o) = record { answer = refl; earlies = refl; lates = refl }
+forecasts-one (noSnapshot h n) (noPrefix k s v i m) = absurd (n s v i)
+forecasts-one (noSnapshot h n) (given k s v i m e l b) = absurd (n s v i)
+forecasts-one (noPrefix h s v i m) (room k) = absurd (true≢false (sym k ∙ h))
+forecasts-one (noPrefix h s v i m) (noSnapshot k n) = absurd (n s v i)
+forecasts-one (noPrefix h s v i m) (noPrefix k u w j o) = record { answer = refl; earlies = refl; lates = refl }
+forecasts-one {t} {p} {early} {late} (noPrefix h s v i m) (given k u w j o e l b) =
+    absurd (let same = ap (λ (x : Snapshot). length (x .prefixes)) (held-one (has-room t early late h) v i w j) in omega arith)
+forecasts-one (given h s v i m e l b) (room k) = absurd (true≢false (sym k ∙ h))
+forecasts-one (given h s v i m e l b) (noSnapshot k n) = absurd (n s v i)
+forecasts-one {t} {p} {early} {late} (given h s v i m e l b) (noPrefix k u w j o) =
+    absurd (let same = ap (λ (x : Snapshot). length (x .prefixes)) (held-one (has-room t early late h) v i w j) in omega arith)
+forecasts-one {t} {p} {early} {late} (given h s v i m e l b) (given k u w j o e′ l′ b′) =
+    let same = held-one (has-room t early late h) w j v i in
+    let there : Between (mesh s p) e′ l′ = subst (λ (x : Snapshot). Between (mesh x p) e′ l′) same b′ in
+    let pair = pair-determined (mesh s p) (sound v p m) e l e′ l′ b there in
+    record {
+      answer = ap₂ (λ (x y : List ℕ). Forecast (differingOf (mesh s p) x y)) (pair .0) (pair .1)
+          ∙ ap (λ (x : Snapshot). Forecast (differingOf (mesh x p) e′ l′)) (sym same);
+      earlies = ap (sets early 0) (pair .0);
+      lates = ap (sets late 0) (pair .1);
+    }
+
+-- ---- settled
+
+-- a forecast is settled exactly when its number is 0, and then no second stable assignment exists
+pub settled : (s : Snapshot) (p : ℕ) → Valid s → p < length (s .prefixes) → (e l : List ℕ) → Between (mesh s p) e l
+    → (differingOf (mesh s p) e l .number ≡ 0) ↔ Only (mesh s p)
+settled s p v m e l b = settled-only (mesh s p) (sound v p m) e l b
+
+-- ---- the forecast of lent columns
+
+-- the columns of a prefix's routes, with MEDs as they stand
+abbrev pub columnsOf : List Route → Columns
+columnsOf rs = columns
+    (map (λ r. r .router) rs) (map (λ r. r .asn) rs) (map (λ r. r .preference) rs) (map (λ r. r .path) rs)
+    (map (λ r. r .origin) rs) (map (λ r. r .med) rs) (map (λ r. r .nid) rs) (map (λ r. r .peer) rs)
+
+-- a prefix's part of each column
+abbrev pub parts : List ℕ → ℕ → Columns → Columns
+parts routes p c = cut (start routes p) (column routes p) c
+
+-- the columns of tables, but for the marks
+abbrev pub whole : Tables → Columns
+whole t = columns (t .rows .router) (t .rows .asn) (t .rows .preference) (t .rows .path) (t .rows .origin) (t .rows .med) (t .rows .nid) (t .rows .peer)
+
+module _ {counts : Counts} {t : Tables} {s : Snapshot} (enough : Room t) (valid : Valid s) (held : Held counts t s) (p : ℕ) (below : p < length (s .prefixes)) where
+  -- what the code decides the prefix on
+  abbrev pub lent : Mesh
+  lent = lentMesh (counts .routers) (t .ids) (t .distances) (columnsOf (routesOf s p))
+
+  -- the prefix's part of each column holds its routes
+  pub parts-are : parts (t .routes) p (whole t) ≡ columnsOf (routesOf s p)
+  parts-are =
+      let b : p < counts .prefixes = omega (arith, ap (λ (c : Counts). c .prefixes) (held .0)) in
+      let k = held-count enough valid held p b in
+      let room = enough .prefixes .rows in
+      rw (
+        k,
+        held-column enough valid held p b (λ r. r .router) (t .rows .router) (λ q. refl) (room .router),
+        held-column enough valid held p b (λ r. r .asn) (t .rows .asn) (λ q. refl) (room .asn),
+        held-column enough valid held p b (λ r. r .preference) (t .rows .preference) (λ q. refl) (room .preference),
+        held-column enough valid held p b (λ r. r .path) (t .rows .path) (λ q. refl) (room .path),
+        held-column enough valid held p b (λ r. r .origin) (t .rows .origin) (λ q. refl) (room .origin),
+        held-column enough valid held p b (λ r. r .med) (t .rows .med) (λ q. refl) (room .med),
+        held-column enough valid held p b (λ r. r .nid) (t .rows .nid) (λ q. refl) (room .nid),
+        held-column enough valid held p b (λ r. r .peer) (t .rows .peer) (λ q. refl) (room .peer),
+      )
+
+  -- a MED that is absent is stored as 0, so it counts as it stands
+  same-metric : (q : ℕ) → metric lent q ≡ metric (mesh s p) q
+  same-metric q = by (eqb (mesh s p .mark q) 0)
+      (λ e. elim (le-or-lt (length (routesOf s p)) q) [
+        | inl l ↦ (let z = List·getD-eq-default (map (λ r. r .med) (routesOf s p)) 0 {n = q} (omega (arith, length-map (routesOf s p) (λ r. r .med))) in rw e z)
+        | inr l ↦ rw e (absent-zero valid p below q l (eqb-true (mesh s p .mark q) 0 e))
+      ])
+      (λ e. rw e)
+
+  pub lent-alike : Alike lent (mesh s p)
+  lent-alike = record {
+    routers = n;
+    rows = length-map (routesOf s p) (λ r. r .router);
+    router = refl;
+    asn = refl;
+    preference = refl;
+    path = refl;
+    origin = refl;
+    metric = fun-ext same-metric;
+    nid = refl;
+    peer = refl;
+    id = λ r l. sym (getD-take (counts .routers) (t .ids) r 0 l) ∙ ap (λ (ids : List ℕ). getD ids r 0) (held-ids enough valid held);
+    distance = λ a b h k. held-distance enough valid held a b h k;
+  }
+    where
+      n : counts .routers ≡ length (s .ids)
+      n = ap (λ (c : Counts). c .routers) (held .0)
+
+  -- early and late of what the code decides on are early and late of that prefix of the snapshot
+  pub lent-between : Between (mesh s p) (early lent) (late lent)
+  lent-between =
+      let known = sound-alike lent (mesh s p) lent-alike (sound valid p below) in
+      between-alike lent (mesh s p) lent-alike known (early lent) (late lent) (forecast lent known)
+
+-- ---- the routers that differ
+
+-- what the code counts of the rows of a mesh
+pub decided : (M : Mesh) {e l : List ℕ} {bits number : ℕ} → ForecastRows M e l → bits ≡ word (differingIn e l) → number ≡ ones bits
+    → Decided M (record { word = bits; number = number }) e l
+decided M {e} {l} {bits} {number} rows w o = record {
+  early-rows = rows .early-rows;
+  late-rows = rows .late-rows;
+  differs = ap₂ (λ (x y : ℕ). record { word = x; number = y }) (w ∙ ap word same) (o ∙ ap ones w ∙ ones-word (differs e l) (length e) ∙ ap length same);
+}
+  where
+    size : length e ≡ M .routers
+    size = ap length (rows .early-rows) ∙ table-length (M .routers) (λ r. choice M r (available M (table (M .routers) (atPlace M (earliest (contest M)))) r))
+
+    same : differingIn e l ≡ differing M (early M) (late M)
+    same = ap (λ (n : ℕ). keep (differs e l) (span 0 n)) size ∙ ap₂ (λ (x y : List ℕ). differing M x y) (rows .early-rows) (rows .late-rows)
+
+-- ---- rows at the start of two areas
+
+module _ {n n′ : ℕ} (e : n ≡ n′) (ids distances : List ℕ) (c : Columns) where
+  pub placed-again : Placed n ids distances c → Placed n′ ids distances c
+  placed-again p = subst (λ (z : ℕ). Placed z ids distances c) e p
+
+  pub shown-again : {d : Differing} {rows lasts early₀ early₁ late₀ late₁ : List ℕ}
+      → n ≤ length early₀ → n ≤ length late₀ → early₁ ≡ rows ++ drop n early₀ → late₁ ≡ lasts ++ drop n late₀
+      → Decided (lentMesh n′ ids distances c) d rows lasts → Shown (lentMesh n ids distances c) d early₀ early₁ late₀ late₁
+  shown-again {d} {rows} {lasts} {early₀} {late₀} re rl ee el b =
+      record {
+        early-area = ee ∙ ap (λ (x : List ℕ). x ++ drop n early₀) (there .early-rows) ∙ front early₀ (early M) (size (earliest (contest M))) re;
+        late-area = el ∙ ap (λ (x : List ℕ). x ++ drop n late₀) (there .late-rows) ∙ front late₀ (late M) (size (latest (contest M))) rl;
+        differs = there .differs;
+      }
+    where
+      M : Mesh
+      M = lentMesh n ids distances c
+
+      there : Decided M d rows lasts
+      there = subst (λ (z : ℕ). Decided (lentMesh z ids distances c) d rows lasts) (sym e) b
+
+      size : (x : List ℕ) → length (holding M x) ≡ n
+      size x = table-length n (λ r. choice M r (available M (table n (atPlace M x)) r))
+
+      front : (area x : List ℕ) → length x ≡ n → n ≤ length area → x ++ drop n area ≡ sets area 0 x
+      front area x z fits =
+          let k : n ≡ 0 + length x = omega arith in
+          ap (λ (m : ℕ). x ++ drop m area) k ∙ sym (sets-eq x area 0 (omega arith))
+
+-- ---- the whole call
+
+module _ (counts : Counts) (t : Tables) (p : ℕ) (roomy : Room t) (holding : Holding counts t) (below : p < counts .prefixes) where
+  abbrev s : Snapshot
+  s = holding .snapshot
+
+  n-is : counts .routers ≡ length (s .ids)
+  n-is = ap (λ (c : Counts). c .routers) (holding .held .0)
+
+  there : p < length (s .prefixes)
+  there = omega (arith, ap (λ (c : Counts). c .prefixes) (holding .held .0))
+
+  few : counts .routers ≤ mostRouters
+  few = omega (arith, n-is, routers-few (holding .valid))
+
+  same-parts : parts (t .routes) p (whole t) ≡ columnsOf (routesOf s p)
+  same-parts = parts-are roomy (holding .valid) (holding .held) p there
+
+  placed : Placed (counts .routers) (t .ids) (t .distances) (columnsOf (routesOf s p))
+  placed = record {
+    fits = record {
+      few = few;
+      rows = omega (arith, one (λ r. r .router), routes-few (holding .valid) p there);
+      asn = alike (λ r. r .asn);
+      preference = alike (λ r. r .preference);
+      path = alike (λ r. r .path);
+      origin = alike (λ r. r .origin);
+      med = alike (λ r. r .med);
+      nid = alike (λ r. r .nid);
+      peer = alike (λ r. r .peer);
+      owned = λ q l. omega (arith, n-is, sound (holding .valid) p there .owned q (omega (arith, one (λ r. r .router))));
+    };
+    ids-long = omega (arith, few, roomy .ids);
+    distances-long = roomy .distances;
+  }
+    where
+      one : (f : Route → ℕ) → length (map f (routesOf s p)) ≡ length (routesOf s p)
+      one f = length-map (routesOf s p) f
+
+      alike : (f : Route → ℕ) → length (map f (routesOf s p)) ≡ length (map (λ r. r .router) (routesOf s p))
+      alike f = one f ∙ sym (one (λ r. r .router))
+
+  -- where the code finds the prefix's rows
+  pub inside : p < length (t .routes)
+  inside = omega (arith, there, holding .valid .fewPrefixes, roomy .prefixes .routes)
+
+  pub fits-in : start (t .routes) p + column (t .routes) p ≤ mostRoutes
+  fits-in = omega (arith, held-count roomy (holding .valid) (holding .held) p below, held-fits roomy (holding .valid) (holding .held) p below)
+
+  pair : (early (lent roomy (holding .valid) (holding .held) p there) ≡ early (mesh s p)) × (late (lent roomy (holding .valid) (holding .held) p there) ≡ late (mesh s p))
+  pair =
+      let M = mesh s p in
+      let L = lent roomy (holding .valid) (holding .held) p there in
+      let known = sound (holding .valid) p there in
+      pair-determined M known (early L) (late L) (early M) (late M) (lent-between roomy (holding .valid) (holding .held) p there) (forecast M known)
+
+  module _ {first end : ℕ} (f : first ≡ start (t .routes) p) (e : end ≡ first + column (t .routes) p) where
+    cut-is : cut first (end - first) (whole t) ≡ columnsOf (routesOf s p)
+    cut-is =
+        ap₂ (λ (a k : ℕ). cut a k (whole t)) f (let k : end - first ≡ column (t .routes) p = omega arith in k)
+        ∙ same-parts
+
+    -- what the code needs to know of them
+    pub part-of : (early₀ late₀ : List ℕ) → mostRouters ≤ length early₀ → mostRouters ≤ length late₀ → Part (counts .routers) first end (t .ids) (t .distances) (whole t) early₀ late₀
+    part-of early₀ late₀ re rl = record {
+      ordered = omega arith;
+      fits = omega (arith, fits-in);
+      router = roomy .prefixes .rows .router;
+      asn = roomy .prefixes .rows .asn;
+      preference = roomy .prefixes .rows .preference;
+      path = roomy .prefixes .rows .path;
+      origin = roomy .prefixes .rows .origin;
+      med = roomy .prefixes .rows .med;
+      nid = roomy .prefixes .rows .nid;
+      peer = roomy .prefixes .rows .peer;
+      placed = subst (Placed (counts .routers) (t .ids) (t .distances)) (sym cut-is) placed;
+      earlies = omega (arith, few);
+      lates = omega (arith, few);
+    }
+
+    -- what the code shows is the forecast
+    pub shown-given : (early₀ late₀ : List ℕ) → anyOf (shortOf t early₀ late₀) ≡ false → {d : Differing} {early₁ late₁ : List ℕ}
+        → Shown (lentMesh (counts .routers) (t .ids) (t .distances) (cut first (end - first) (whole t))) d early₀ early₁ late₀ late₁
+        → Forecasts counts t p early₀ late₀ (Forecast d) early₁ late₁
+    shown-given early₀ late₀ enough {d} {early₁} {late₁} h =
+        subst (λ (x : Differing). Forecasts counts t p early₀ late₀ (Forecast x) early₁ late₁) (sym answer)
+        (subst (λ (x : List ℕ). Forecasts counts t p early₀ late₀ (Forecast (differingOf (mesh s p) (early L) (late L))) x late₁) (sym (k .early-area))
+        (subst (λ (x : List ℕ). Forecasts counts t p early₀ late₀ (Forecast (differingOf (mesh s p) (early L) (late L))) (sets early₀ 0 (early L)) x) (sym (k .late-area))
+        (given enough s (holding .valid) (holding .held) there (early L) (late L) (lent-between roomy (holding .valid) (holding .held) p there))))
+      where
+        L : Mesh
+        L = lent roomy (holding .valid) (holding .held) p there
+
+        k : Shown L d early₀ early₁ late₀ late₁
+        k = subst (λ (c : Columns). Shown (lentMesh (counts .routers) (t .ids) (t .distances) c) d early₀ early₁ late₀ late₁) cut-is h
+
+        answer : d ≡ differingOf (mesh s p) (early L) (late L)
+        answer = k .differs ∙ ap (λ (n : ℕ). counted (keep (differs (early L) (late L)) (span 0 n))) n-is
+          where
+            counted : List ℕ → Differing
+            counted rs = record { word = word rs; number = length rs }
+
+    -- and its rows are those of that prefix of the snapshot
+    pub same-early : early (lentMesh (counts .routers) (t .ids) (t .distances) (cut first (end - first) (whole t))) ≡ early (mesh s p)
+    same-early = ap (λ (c : Columns). early (lentMesh (counts .routers) (t .ids) (t .distances) c)) cut-is ∙ pair .0
+
+    pub same-late : late (lentMesh (counts .routers) (t .ids) (t .distances) (cut first (end - first) (whole t))) ≡ late (mesh s p)
+    same-late = ap (λ (c : Columns). late (lentMesh (counts .routers) (t .ids) (t .distances) c)) cut-is ∙ pair .1

@@ -1,0 +1,202 @@
+// The forecast of one prefix over lent tables: each router's early and late row, and which routers differ.
+use refusal::Refusal;
+use snapshot::Counts;
+ghost use mathlib.Core.Path.{_≡_};
+ghost use Prim.Native.Nat.{_-_, _≤_};
+ghost use lib.ListN.{length};
+ghost use Rattle.model.specs.Columns.{columns, lentMesh, Placed};
+ghost use Rattle.model.specs.Lent.{was, is};
+ghost use Rattle.snapshot.specs.Limits.{mostRoutes};
+ghost use Rattle.snapshot.specs.Tables.{tables, columns as rowColumns};
+ghost use Rattle.tables.specs.Judging.{start};
+ghost use Rattle.outlook.specs.Outlook.{cut, Decided, Part, Shown, Forecasts};
+
+// The routers whose early and late rows differ: bit r for router r, and how many there are.
+pub struct Differing {
+    pub word: u64,
+    pub number: u32,
+}
+
+// What a forecast answers: the routers that differ (settled exactly when there are none), or a refusal with its place.
+pub enum Outlook {
+    Forecast(Differing),
+    Refused(Refusal, usize),
+}
+
+// The row at which the routes of a prefix start: behind those of the prefixes below it.
+fn start_of(routes: &[u32], prefix: usize) -> usize
+    requires { ⌜ (prefix ≤ length (now routes)) × (start (now routes) prefix ≤ mostRoutes) ⌝ }
+    ensures { λ r. ⌜ r ≡ start (was routes) prefix ⌝ }
+{
+    let mut sum: usize = 0;
+    for p in 0..prefix {
+        sum += routes[p] as usize;
+    }
+    sum
+}
+
+// The early and the late row of each router for the routes of these columns, and the routers that differ. There is one router for
+// each entry of `early`.
+pub fn decided(
+    router: &[u32],
+    asn: &[u32],
+    preference: &[u32],
+    path: &[u32],
+    origin: &[u32],
+    med: &[u32],
+    nid: &[u32],
+    peer: &[u32],
+    ids: &[u32],
+    distances: &[u32],
+    early: &mut [u16],
+    late: &mut [u16],
+) -> Differing
+    requires { ⌜ Placed (length (now early)) (now ids) (now distances) (columns (now router) (now asn) (now preference) (now path) (now origin) (now med) (now nid) (now peer)) × (length (now late) ≡ length (now early)) ⌝ }
+    ensures { λ d. ⌜ Decided (lentMesh (length (was early)) (was ids) (was distances) (columns (was router) (was asn) (was preference) (was path) (was origin) (was med) (was nid) (was peer))) d (is early) (is late) ⌝ }
+{
+    hold::forecast_rows(
+        router,
+        asn,
+        preference,
+        path,
+        origin,
+        med,
+        nid,
+        peer,
+        ids,
+        distances,
+        early,
+        late,
+    );
+    let bits = word::differing(early, late);
+    Differing {
+        word: bits,
+        number: word::ones(bits),
+    }
+}
+
+// The same for the routes from one row of lent columns to another: the routers' rows go to the start of the areas, the entries past
+// the last router stay.
+pub fn shown(
+    routers: usize,
+    first: usize,
+    end: usize,
+    ids: &[u32],
+    distances: &[u32],
+    router: &[u32],
+    asn: &[u32],
+    preference: &[u32],
+    path: &[u32],
+    origin: &[u32],
+    med: &[u32],
+    nid: &[u32],
+    peer: &[u32],
+    early: &mut [u16],
+    late: &mut [u16],
+) -> Differing
+    requires { ⌜ Part routers first end (now ids) (now distances) (columns (now router) (now asn) (now preference) (now path) (now origin) (now med) (now nid) (now peer)) (now early) (now late) ⌝ }
+    ensures { λ d. ⌜ Shown (lentMesh routers (was ids) (was distances) (cut first (end - first) (columns (was router) (was asn) (was preference) (was path) (was origin) (was med) (was nid) (was peer)))) d (was early) (is early) (was late) (is late) ⌝ }
+{
+    decided(
+        &router[first..end],
+        &asn[first..end],
+        &preference[first..end],
+        &path[first..end],
+        &origin[first..end],
+        &med[first..end],
+        &nid[first..end],
+        &peer[first..end],
+        ids,
+        distances,
+        &mut early[..routers],
+        &mut late[..routers],
+    )
+}
+
+// The forecast of the prefix of a number. Checks: ROOM, TABLE, NO PREFIX, in this order.
+pub fn forecast(
+    counts: Counts,
+    ids: &[u32],
+    distances: &[u32],
+    address: &[u32],
+    bits: &[u32],
+    routes: &[u32],
+    router: &[u32],
+    asn: &[u32],
+    preference: &[u32],
+    path: &[u32],
+    origin: &[u32],
+    mark: &[u32],
+    med: &[u32],
+    nid: &[u32],
+    peer: &[u32],
+    prefix: u32,
+    early: &mut [u16],
+    late: &mut [u16],
+) -> Outlook
+    ensures { λ r. ⌜ Forecasts counts (tables (was ids) (was distances) (was address) (was bits) (was routes) (rowColumns (was router) (was asn) (was preference) (was path) (was origin) (was mark) (was med) (was nid) (was peer))) prefix (was early) (was late) r (is early) (is late) ⌝ }
+{
+    if (ids.len() < 64)
+        | (distances.len() < 4096)
+        | (address.len() < 64)
+        | (bits.len() < 64)
+        | (routes.len() < 64)
+        | (router.len() < 1024)
+        | (asn.len() < 1024)
+        | (preference.len() < 1024)
+        | (path.len() < 1024)
+        | (origin.len() < 1024)
+        | (mark.len() < 1024)
+        | (med.len() < 1024)
+        | (nid.len() < 1024)
+        | (peer.len() < 1024)
+        | (early.len() < 64)
+        | (late.len() < 64)
+    {
+        return Outlook::Refused(Refusal::Room, 0);
+    }
+    let good = tables::judge(
+        counts,
+        ids,
+        distances,
+        address,
+        bits,
+        routes,
+        router,
+        asn,
+        preference,
+        path,
+        origin,
+        mark,
+        med,
+        nid,
+        peer,
+    );
+    if !good {
+        return Outlook::Refused(Refusal::Table, 0);
+    }
+    if counts.prefixes <= prefix {
+        return Outlook::Refused(Refusal::NoPrefix, 0);
+    }
+    let p = prefix as usize;
+    let first = start_of(routes, p);
+    let end = first + routes[p] as usize;
+    let d = shown(
+        counts.routers as usize,
+        first,
+        end,
+        ids,
+        distances,
+        router,
+        asn,
+        preference,
+        path,
+        origin,
+        med,
+        nid,
+        peer,
+        early,
+        late,
+    );
+    Outlook::Forecast(d)
+}

@@ -1,0 +1,103 @@
+-- The ways out of reading, each with what it answers and leaves.
+use Prim.Native.Nat.{ℕ, suc, _≤_, _<_}
+use native.Mathlib.Omega.{arith}
+use mathlib.Core.Path.{_≡_, refl, sym, ap, ap₂, _∙_, subst, subst₂}
+use mathlib.Core.Bool.{Bool, true, false, cond}
+use mathlib.Core.List.{List, [], _∷_}
+use lib.ListN.{getD}
+use lib.Dec.{T, ltb, lt→ltb}
+use lib.Pow.{areBytes}
+use borrow.Author.Tests.{ltb-false}
+use mir.Facts.{yes-and}
+use Rattle.refusal.specs.declared.Refusal.{Refusal}
+use Rattle.refusal.specs.declared.Refusal.the-variants.{Room}
+use Rattle.snapshot.specs.declared.Counts.{Counts}
+use Rattle.snapshot.specs.Limits.{mostPrefixes}
+use Rattle.snapshot.specs.Ranges.{anyOf}
+use Rattle.snapshot.specs.RangesLaws.{none-any, none-at}
+use Rattle.snapshot.specs.Format.{Snapshot}
+use Rattle.snapshot.specs.Reading.{Answer, accepted, refused, reading}
+use Rattle.snapshot.specs.Theorems.{accepts}
+use Rattle.snapshot.specs.Tables.{Tables, short, countsOf}
+use Rattle.scan.specs.declared.Read.the-variants as read
+use Rattle.scan.specs.Scan.{told}
+use Rattle.fill.specs.Fill.{Spans, WideTables, filledFrom}
+use Rattle.fill.specs.FillLaws.{spans, fills}
+use Rattle.reader.specs.Read.{left, readAnswer, readTables}
+
+-- each table has room for its limit
+pub wide : (t : Tables) → anyOf (short t) ≡ false → WideTables t
+wide t e =
+    let each = none-at (short t) (none-any (short t) e) in
+    let enough : (k m : ℕ) → ltb k m ≡ false → m ≤ k = λ k m e. ltb-false k m e in
+    record {
+      ids = enough _ _ (each 0);
+      distances = enough _ _ (each 1);
+      rest = record {
+        address = enough _ _ (each 2);
+        bits = enough _ _ (each 3);
+        routes = enough _ _ (each 4);
+        rows = record {
+          router = enough _ _ (each 5);
+          asn = enough _ _ (each 6);
+          preference = enough _ _ (each 7);
+          path = enough _ _ (each 8);
+          origin = enough _ _ (each 9);
+          mark = enough _ _ (each 10);
+          med = enough _ _ (each 11);
+          nid = enough _ _ (each 12);
+          peer = enough _ _ (each 13);
+        };
+      };
+    }
+
+-- an answer tells what reading gave
+told-refused : (a : Answer) {r : Refusal} {at : ℕ} → read.Refused r at ≡ told a → a ≡ refused r at
+told-refused (accepted s) e = absurd (let z : _≡_ {A = ℕ} 0 1 = cc in omega arith)
+told-refused (refused q place) e = cc
+
+told-accepted : (a : Answer) {c : Counts} → read.Accepted c ≡ told a → (s : Snapshot) × (a ≡ accepted s) × (c ≡ countsOf s)
+told-accepted (accepted s) e = (s, refl, cc)
+told-accepted (refused q place) e = absurd (let z : _≡_ {A = ℕ} 0 1 = cc in omega arith)
+
+module _ (bs : List ℕ) (t : Tables) where
+  pub no-room : anyOf (short t) ≡ true → (read.Refused Room 0 ≡ readAnswer bs t) × (t ≡ readTables bs t)
+  unfolding readAnswer readTables
+  no-room e =
+      (sym (ap (λ (b : Bool). cond b (read.Refused Room 0) (told (reading bs))) e), sym (ap (λ (b : Bool). cond b t (left (reading bs) t)) e))
+
+  module _ (room : anyOf (short t) ≡ false) where
+    answer-is : readAnswer bs t ≡ told (reading bs)
+    unfolding readAnswer
+    answer-is = ap (λ (b : Bool). cond b (read.Refused Room 0) (told (reading bs))) room
+
+    tables-are : readTables bs t ≡ left (reading bs) t
+    unfolding readTables
+    tables-are = ap (λ (b : Bool). cond b t (left (reading bs) t)) room
+
+    pub not-sound : {r : Refusal} {at : ℕ} → read.Refused r at ≡ told (reading bs) → (read.Refused r at ≡ readAnswer bs t) × (t ≡ readTables bs t)
+    not-sound e = (e ∙ sym answer-is, sym (tables-are ∙ ap (λ (a : Answer). left a t) (told-refused (reading bs) e)))
+
+    pub sound : {c : Counts} {u : Tables} → T (areBytes bs) → read.Accepted c ≡ told (reading bs) → u ≡ filledFrom bs (c .routers) (c .prefixes) t
+        → (read.Accepted c ≡ readAnswer bs t) × (u ≡ readTables bs t)
+    sound {c} {u} bytes e f =
+        let (s, is, counts) = told-accepted (reading bs) e in
+        let (written, valid) = accepts bs s bytes .0 is in (
+          e ∙ sym answer-is,
+          f ∙ ap₂ (λ (l : List ℕ) (c : Counts). filledFrom l (c .routers) (c .prefixes) t) written counts ∙ fills s valid t
+              ∙ sym (tables-are ∙ ap (λ (a : Answer). left a t) is),
+        )
+
+-- an accepted input has what is to be filled in
+pub spanned : (bs : List ℕ) {c : Counts} → T (areBytes bs) → read.Accepted c ≡ told (reading bs) → Spans bs (c .routers) × (c .prefixes ≤ mostPrefixes)
+spanned bs {c} bytes e =
+    let (s, is, counts) = told-accepted (reading bs) e in
+    let (written, valid) = accepts bs s bytes .0 is in (
+      subst₂ (λ (l : List ℕ) (c : Counts). Spans l (c .routers)) (sym written) (sym counts) (spans s valid),
+      subst (λ (c : Counts). c .prefixes ≤ mostPrefixes) (sym counts) (valid .fewPrefixes),
+    )
+
+-- a slice of bytes holds bytes
+pub slice-bytes : (bs : List ℕ) → ((k : ℕ) → getD bs k 0 < 256) → T (areBytes bs)
+slice-bytes [] h = tt
+slice-bytes (b ∷ bs) h = yes-and (ltb b 256) (areBytes bs) (lt→ltb b 256 (h 0)) (slice-bytes bs (λ k. h (suc k)))

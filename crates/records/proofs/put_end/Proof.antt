@@ -1,0 +1,20 @@
+-- `put_end` meets its contract. Assumes nothing.
+use mathlib.Core.Path.{refl}
+use mathlib.Core.List.{[], _∷_}
+use denote.Ref.{now}
+use borrow.Author.Needs.{needs}
+use Rattle.snapshot.specs.Records.{endForm}
+use Rattle.records.specs.PuttingLaws.{record-put}
+use Rattle.records.proofs.put_end.Statement.{statement}
+use Rattle.records.proofs.put_end.Tie as tie
+
+returns : tie.Need-returns
+returns c =
+    let start : tie.Start = search needs in
+    let a = start .args in
+    let one : tie.After-put8 = search needs in
+    let two : tie.After-put32 = search needs in
+    rw (two .put32 .ensures, one .put8 .ensures) (record-put endForm (a .records ∷ []) (now (a .out)) (a .at) refl)
+
+pub put-end-spec : {M : Type 1} → statement M
+put-end-spec = tie.close (tie.spec (λ c κs. search needs) (λ c. search needs) (λ c κs. search needs) (λ c. search needs) returns)

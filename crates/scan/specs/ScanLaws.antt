@@ -1,0 +1,469 @@
+-- How the first pass goes on: one law for each turn of its loops and each way out of them.
+use Prim.Native.Nat.{ℕ, suc, _+_, _-_, _≤_, _<_, zero-le}
+use native.Mathlib.Numerals.{add-one}
+use native.Mathlib.Decide.{decLe}
+use native.Mathlib.Omega.{arith}
+use mathlib.Core.Path.{_≡_, refl, sym, ap, ap₂, _∙_, subst}
+use mathlib.Core.Logic.{_≢_}
+use mathlib.Core.Bool.{Bool, true, false, cond, not, _&&_}
+use mathlib.Core.List.{List, [], _∷_, _++_}
+use lib.ListN.{length, getD, take, drop, set, length-set, length-drop}
+use lib.Seq.{take-suc-set, length-take-le}
+use lib.Dec.{T, leb, eqb, leb→le, ltb→lt}
+use borrow.Author.Tests.{ne-eqb, lt-ltb, le-ltb}
+use Rattle.refusal.specs.declared.Refusal.{Refusal}
+use Rattle.refusal.specs.declared.Refusal.the-variants.{Tail}
+use Rattle.model.specs.Decision as model
+use Rattle.snapshot.specs.declared.Route.{Route}
+use Rattle.snapshot.specs.Limits.{mostRouters, mostPrefixes, mostInPrefix, mostRoutes}
+use Rattle.snapshot.specs.Ranges.{rises, risesRoute}
+use Rattle.snapshot.specs.Plain.{routeIs}
+use Rattle.snapshot.specs.Records.{countForm, routerForm, distanceForm, prefixForm, routeForm, endForm, size, valuesAt}
+use Rattle.snapshot.specs.Format.{Snapshot, Prefix, Pair, pairs, row, rows, records, routesIn, latest, Check, judged, Holds}
+use Rattle.snapshot.specs.Reading.{Answer, accepted, refused, unless, prefixExtra, prefixValues, prefixRecord, routeExtra, routeValues, routeRecord, endRecord, openRoutes, addRoute, withPrefixes, prefixOf, routeOf, tail, items, distanceRecord, distances, routerRecord, routers, countValues, countRecord, reading}
+use Rattle.snapshot.specs.ChecksLaws.{judged-cases, passed, count-range, length-snoc, latest-snoc, routesIn-append, routesIn-add, length-add, some-prefix}
+use Rattle.snapshot.specs.PlaceLaws.{reading-count, routers-one, routers-none, distances-one, distances-none, items-one-prefix, items-one-route, items-last, tail-none, tail-some}
+use Rattle.snapshot.specs.PairsLaws.{due-row, due-equal, due-other, due-row-end, due-end}
+use Rattle.cursor.specs.declared.Cursor.{Cursor}
+use Rattle.cursor.specs.declared.Network.{Network}
+use Rattle.cursor.specs.declared.Sofar.{Sofar}
+use Rattle.cursor.specs.declared.Step.the-variants as step
+use Rattle.cursor.specs.declared.PrefixStep.the-variants as prefixStep
+use Rattle.cursor.specs.declared.RouteStep.the-variants as routeStep
+use Rattle.cursor.specs.declared.EndStep.the-variants as endStep
+use Rattle.cursor.specs.Steps.{begin, after, due, networkAt, routeAt, tailStep, lateBehind, Tells}
+use Rattle.scan.specs.declared.Read.the-variants as read
+use Rattle.scan.specs.Scan.{told, answered, Routers, Distances, Rows, Row, Items, nothing, morePrefix, moreRoute}
+
+-- a record's body lies within the input
+within-body : (bs : List ℕ) (at : ℕ) (k : ℕ) → T (leb (suc k) (length (drop at bs))) → at + suc k ≤ length bs
+within-body bs at k t =
+    let h : suc k ≤ length (drop at bs) = leb→le (suc k) (length (drop at bs)) t in
+    let l = length-drop at bs in
+    omega (arith, h, l)
+
+-- ---- the steps of records that say one number
+
+abbrev stepOf : List Check → ℕ → Cursor → ℕ → step.the-data
+stepOf checks at next v = judged checks (λ f. step.Refused f at) (λ _. step.Took next v)
+
+module _ (checks : List Check) (at : ℕ) (next : Cursor) (v : ℕ) (go : Unit {0} → Answer) where
+  step-refused : (r : Refusal) (place : ℕ) → step.Refused r place ≡ stepOf checks at next v → unless checks at go ≡ refused r place
+  step-refused r place e =
+      judged-cases checks (λ f. step.Refused f at) (λ _. step.Took next v) (λ r. refused r at) go (step.Refused r place) (sym e)
+      (λ f d g. g ∙ (let a : f ≡ r = cc in let b : at ≡ place = cc in ap₂ refused a b))
+      (λ h d g. absurd (let z : _≡_ {A = ℕ} 0 1 = cc in omega arith))
+
+  step-took : (c : Cursor) (w : ℕ) → step.Took c w ≡ stepOf checks at next v → Holds checks × (c ≡ next) × (w ≡ v) × (unless checks at go ≡ go tt)
+  step-took c w e =
+      judged-cases checks (λ f. step.Refused f at) (λ _. step.Took next v) (λ r. refused r at) go (step.Took c w) (sym e)
+      (λ f d g. absurd (let z : _≡_ {A = ℕ} 0 1 = cc in omega arith))
+      (λ h d g. (h, let a : c ≡ next = cc in a, let b : w ≡ v = cc in b, g))
+
+-- ---- the number of routers
+
+module _ (bs : List ℕ) where
+  abbrev counted : ℕ
+  counted = getD (valuesAt countForm bs 0) 0 0
+
+  pub count-stop : {r : Refusal} {place : ℕ} → step.Refused r place ≡ stepOf (countRecord (drop 0 bs)) 0 (after begin countForm) counted → reading bs ≡ refused r place
+  count-stop {r} {place} e = reading-count bs ∙ step-refused (countRecord bs) 0 (after begin countForm) counted _ r place e
+
+  pub count-next : {c : Cursor} {n : ℕ} (ids : List ℕ) → mostRouters ≤ length ids → step.Took c n ≡ stepOf (countRecord (drop 0 bs)) 0 (after begin countForm) counted → Routers bs n 0 ids c
+  unfolding countRecord
+  count-next {c} {n} ids room e =
+      let (h, at, is, go) = step-took (countRecord bs) 0 (after begin countForm) counted
+      (λ _. routers counted counted [] (size countForm) (drop (size countForm) bs)) c n e in
+      let (low, high) = count-range counted (passed countForm [] countValues bs h .good .0) in
+      let few : n ≤ mostRouters = rw is high in
+      record {
+        within = zero-le;
+        room = omega arith;
+        same = rw (at, is) (reading-count bs ∙ go ∙ ap (λ (m : ℕ). routers counted m [] (size countForm) (drop (size countForm) bs)) (let z : counted ≡ counted - 0 = omega arith in z));
+        records = rw at refl;
+        low = rw at (omega arith);
+      }
+
+-- ---- the routers
+
+module _ {bs : List ℕ} {n i : ℕ} {ids : List ℕ} {c : Cursor} (s : Routers bs n i ids c) where
+  abbrev routerChecksAt : List Check
+  routerChecksAt = routerRecord n (take i ids) (drop (c .at) bs)
+
+  abbrev idAt : ℕ
+  idAt = getD (valuesAt routerForm bs (c .at)) 1 0
+
+  routers-now : i < n → reading bs ≡ unless routerChecksAt (c .at) λ _.
+      routers n (n - suc i) (take i ids ++ (idAt ∷ [])) (c .at + size routerForm) (drop (c .at + size routerForm) bs)
+  routers-now l =
+      s .same ∙ ap (λ (m : ℕ). routers n m (take i ids) (c .at) (drop (c .at) bs)) (let z : n - i ≡ suc (n - suc i) = omega arith in z)
+      ∙ routers-one bs (c .at) n (n - suc i) (take i ids)
+
+  pub routers-stop : {r : Refusal} {place : ℕ} → i < n → step.Refused r place ≡ stepOf routerChecksAt (c .at) (after c routerForm) idAt → reading bs ≡ refused r place
+  routers-stop {r} {place} l e = routers-now l ∙ step-refused routerChecksAt (c .at) (after c routerForm) idAt _ r place e
+
+  pub routers-next : {next : Cursor} {id : ℕ} → i < n → step.Took next id ≡ stepOf routerChecksAt (c .at) (after c routerForm) idAt → Routers bs n (i + 1) (set ids i id) next
+  routers-next {next} {id} l e =
+      let (h, at, is, go) = step-took routerChecksAt (c .at) (after c routerForm) idAt
+      (λ _. routers n (n - suc i) (take i ids ++ (idAt ∷ [])) (c .at + size routerForm) (drop (c .at + size routerForm) bs)) next id e in
+      let room : n ≤ length ids = s .room in
+      let long = length-set ids i id in
+      let more : take (i + 1) (set ids i id) ≡ take i ids ++ (idAt ∷ []) =
+      ap (λ (m : ℕ). take m (set ids i id)) (add-one i) ∙ take-suc-set ids i id (omega arith) ∙ ap (λ (x : ℕ). take i ids ++ (x ∷ [])) is in
+      let left : n - (i + 1) ≡ n - suc i = omega arith in
+      let count : c .records ≡ 1 + i = s .records in
+      let below : c .records ≤ c .at = s .low in
+      record {
+        within = omega arith;
+        room = omega arith;
+        same = rw (at, more, left) (routers-now l ∙ go);
+        records = rw at (omega arith);
+        low = rw at (omega arith);
+      }
+
+  pub routers-end : n ≤ i → Distances bs n (pairs n) c
+  routers-end l =
+      let w : i ≤ n = s .within in
+      let is : i ≡ n = omega arith in
+      let room : n ≤ length ids = s .room in
+      let long : length (take i ids) ≡ n = length-take-le i ids (omega arith) ∙ is in
+      let count : c .records ≡ 1 + i = s .records in
+      record {
+        ids = take i ids;
+        ds = [];
+        long = long;
+        same = s .same ∙ ap (λ (m : ℕ). routers n m (take i ids) (c .at) (drop (c .at) bs)) (let z : n - i ≡ 0 = omega arith in z)
+            ∙ routers-none bs (c .at) n (take i ids) ∙ ap (λ (m : ℕ). distances (pairs m) (take i ids) [] (c .at) (drop (c .at) bs)) long;
+        records = omega arith;
+        low = s .low;
+      }
+
+-- ---- the distances
+
+module _ {bs : List ℕ} {n : ℕ} {c : Cursor} (p : Pair) (more : List Pair) (s : Distances bs n (p ∷ more) c) where
+  abbrev distanceChecksAt : List Check
+  distanceChecksAt = distanceRecord n p (drop (c .at) bs)
+
+  abbrev distanceAt : ℕ
+  distanceAt = getD (valuesAt distanceForm bs (c .at)) 2 0
+
+  distances-now : reading bs ≡ unless distanceChecksAt (c .at) λ _.
+      distances more (s .ids) (s .ds ++ (distanceAt ∷ [])) (c .at + size distanceForm) (drop (c .at + size distanceForm) bs)
+  distances-now =
+      s .same ∙ distances-one bs (c .at) p more (s .ids) (s .ds)
+      ∙ ap (λ (m : ℕ). unless (distanceRecord m p (drop (c .at) bs)) (c .at) λ _.
+      distances more (s .ids) (s .ds ++ (distanceAt ∷ [])) (c .at + size distanceForm) (drop (c .at + size distanceForm) bs)) (s .long)
+
+  distances-stop : {r : Refusal} {place : ℕ} → step.Refused r place ≡ stepOf distanceChecksAt (c .at) (after c distanceForm) distanceAt → reading bs ≡ refused r place
+  distances-stop {r} {place} e = distances-now ∙ step-refused distanceChecksAt (c .at) (after c distanceForm) distanceAt _ r place e
+
+  distances-next : {next : Cursor} {d : ℕ} → step.Took next d ≡ stepOf distanceChecksAt (c .at) (after c distanceForm) distanceAt → Distances bs n more next
+  distances-next {next} {d} e =
+      let (h, at, is, go) = step-took distanceChecksAt (c .at) (after c distanceForm) distanceAt
+      (λ _. distances more (s .ids) (s .ds ++ (distanceAt ∷ [])) (c .at + size distanceForm) (drop (c .at + size distanceForm) bs)) next d e in
+      let count : c .records ≡ 1 + n + length (s .ds) = s .records in
+      let below : c .records ≤ c .at = s .low in
+      let one = length-snoc (s .ds) distanceAt in
+      record {
+        ids = s .ids;
+        ds = s .ds ++ (distanceAt ∷ []);
+        long = s .long;
+        same = rw at (distances-now ∙ go);
+        records = rw at (omega arith);
+        low = rw at (omega arith);
+      }
+
+module _ {bs : List ℕ} {n : ℕ} {c : Cursor} where
+  due-is : {xs ys : List Pair} → xs ≡ ys → Distances bs n xs c → Distances bs n ys c
+  due-is e s = subst (λ (l : List Pair). Distances bs n l c) e s
+
+  pub rows-start : Distances bs n (pairs n) c → Rows bs n 0 c
+  rows-start s = record { within = zero-le; left = due-is (ap (rows n 0) (let z : n ≡ n - 0 = omega arith in z)) s }
+
+  module _ {from : ℕ} (s : Rows bs n from c) where
+    pub rows-end : n ≤ from → Distances bs n [] c
+    rows-end m =
+        let l : from ≤ n = s .within in
+        let e : from ≡ n = omega arith in
+        due-is (ap (λ (f : ℕ). rows n f (n - f)) e ∙ due-end n) (s .left)
+
+    pub row-start : from < n → Row bs n from 0 c
+    row-start l = record {
+      known = l;
+      within = zero-le;
+      left = due-is (due-row n from l ∙ ap (λ (m : ℕ). row from 0 m ++ rows n (suc from) (n - suc from)) (let z : n ≡ n - 0 = omega arith in z)) (s .left);
+    }
+
+  module _ {from to : ℕ} (s : Row bs n from to c) where
+    abbrev others : List Pair
+    others = rows n (suc from) (n - suc from)
+
+    pub row-skip : to < n → from ≡ to → Row bs n from (to + 1) c
+    row-skip l e = record {
+      known = s .known;
+      within = omega arith;
+      left = due-is (ap (λ (l : List Pair). l ++ others) (due-equal n from to l e ∙ ap (λ (t : ℕ). row from t (n - t)) (sym (add-one to)))) (s .left);
+    }
+
+    row-due : to < n → (from ≡ to → ⊥) → Distances bs n (due from to ∷ (row from (suc to) (n - suc to) ++ others)) c
+    row-due l e = due-is (ap (λ (l : List Pair). l ++ others) (due-other n from to l e)) (s .left)
+
+    pub row-stop : {r : Refusal} {place : ℕ} → to < n → (from ≡ to → ⊥)
+        → step.Refused r place ≡ stepOf (distanceRecord n (due from to) (drop (c .at) bs)) (c .at) (after c distanceForm) (getD (valuesAt distanceForm bs (c .at)) 2 0)
+        → reading bs ≡ refused r place
+    row-stop l e d = distances-stop (due from to) (row from (suc to) (n - suc to) ++ others) (row-due l e) d
+
+    pub row-next : {next : Cursor} {d : ℕ} → to < n → (from ≡ to → ⊥)
+        → step.Took next d ≡ stepOf (distanceRecord n (due from to) (drop (c .at) bs)) (c .at) (after c distanceForm) (getD (valuesAt distanceForm bs (c .at)) 2 0)
+        → Row bs n from (to + 1) next
+    row-next {next} l e d = record {
+      known = s .known;
+      within = omega arith;
+      left = subst (λ (t : ℕ). Distances bs n (row from t (n - t) ++ others) next) (sym (add-one to))
+          (distances-next (due from to) (row from (suc to) (n - suc to) ++ others) (row-due l e) d);
+    }
+
+    pub row-end : n ≤ to → Rows bs n (from + 1) c
+    row-end m =
+        let l : to ≤ n = s .within in
+        let k : from < n = s .known in
+        let e : to ≡ n = omega arith in
+        record {
+          within = omega arith;
+          left = due-is
+              (ap (λ (t : ℕ). row from t (n - t) ++ others) e ∙ ap (λ (l : List Pair). l ++ others) (due-row-end n from)
+              ∙ ap (λ (f : ℕ). rows n f (n - f)) (sym (add-one from))) (s .left);
+        }
+
+-- ---- what is known of the prefixes and routes read so far
+
+not-not : (b : Bool) → not (not b) ≡ b
+not-not true = refl
+not-not false = refl
+
+-- where there is one before, it is late where it does not rise
+late-some : (m a b x y : ℕ) → not (lateBehind (m + 1) a b x y) ≡ rises a b x y
+late-some m a b x y =
+    ap (λ (z : Bool). not (not z && not (rises a b x y))) (ne-eqb (m + 1) 0 (let z : m + 1 ≡ 0 → ⊥ = λ e. omega arith in z)) ∙ not-not (rises a b x y)
+
+open-snoc : (ps : List Prefix) (p : Prefix) → openRoutes (ps ++ (p ∷ [])) ≡ p .routes
+open-snoc [] p = refl
+open-snoc (q ∷ []) p = refl
+open-snoc (q ∷ r ∷ ps) p = open-snoc (r ∷ ps) p
+
+open-add : (p : Prefix) (ps : List Prefix) (r : model.Route) → openRoutes (addRoute (p ∷ ps) r) ≡ openRoutes (p ∷ ps) ++ (r ∷ [])
+open-add p [] r = refl
+open-add p (q ∷ []) r = refl
+open-add p (q ∷ x ∷ ps) r = open-add q (x ∷ ps) r
+
+latest-add : (a b : ℕ) (p : Prefix) (ps : List Prefix) (r : model.Route)
+    → latest (λ p. rises (p .address) (p .bits) a b) (addRoute (p ∷ ps) r) ≡ latest (λ p. rises (p .address) (p .bits) a b) (p ∷ ps)
+latest-add a b p [] r = refl
+latest-add a b p (q ∷ []) r = refl
+latest-add a b p (q ∷ x ∷ ps) r = latest-add a b q (x ∷ ps) r
+
+tells-nothing : (ids ds : List ℕ) → Tells (record { ids = ids; distances = ds; prefixes = [] }) (nothing (length ids))
+tells-nothing ids ds = record { routers = refl; prefixes = refl; routes = refl; inside = refl; above = λ a b. refl; beyond = λ r. refl }
+
+module _ {s : Snapshot} {k : Sofar} (t : Tells s k) where
+  tells-prefix : (p : Network) → Tells (withPrefixes s (s .prefixes ++ (record { address = p .address; bits = p .bits; routes = [] } ∷ []))) (morePrefix k p)
+  tells-prefix p =
+      let q : Prefix = record { address = p .address; bits = p .bits; routes = [] } in
+      let ps : List Prefix = s .prefixes in
+      let one = length-snoc ps q in
+      let count : k .prefixes ≡ length ps = t .prefixes in
+      let none : openRoutes (ps ++ (q ∷ [])) ≡ [] = open-snoc ps q in
+      let sum = routesIn-append ps (q ∷ []) in
+      let routes : k .routes ≡ routesIn ps = t .routes in
+      record {
+        routers = t .routers;
+        prefixes = omega arith;
+        routes = omega arith;
+        inside = ap length (sym none);
+        above = λ a b. latest-snoc (λ p. rises (p .address) (p .bits) a b) ps q ∙ sym (late-some (k .prefixes) (p .address) (p .bits) a b);
+        beyond = λ r. ap (latest (λ q. risesRoute q r)) none;
+      }
+
+  tells-route : (r : Route) → T (not (eqb (length (s .prefixes)) 0)) → Tells (withPrefixes s (addRoute (s .prefixes) (routeIs r))) (moreRoute k r)
+  tells-route r some =
+      let ps : List Prefix = s .prefixes in
+      let q : model.Route = routeIs r in
+      let size : length (addRoute ps q) ≡ length ps = some-prefix (λ ps. length (addRoute ps q) ≡ length ps) (λ p ps. length-add p ps q) ps some in
+      let more : routesIn (addRoute ps q) ≡ suc (routesIn ps) = some-prefix (λ ps. routesIn (addRoute ps q) ≡ suc (routesIn ps)) (λ p ps. routesIn-add p ps q) ps some in
+      let opens : openRoutes (addRoute ps q) ≡ openRoutes ps ++ (q ∷ []) = some-prefix (λ ps. openRoutes (addRoute ps q) ≡ openRoutes ps ++ (q ∷ [])) (λ p ps. open-add p ps q) ps some in
+      let one : length (openRoutes (addRoute ps q)) ≡ suc (length (openRoutes ps)) = ap length opens ∙ length-snoc (openRoutes ps) q in
+      let count : k .prefixes ≡ length ps = t .prefixes in
+      let routes : k .routes ≡ routesIn ps = t .routes in
+      let inside : k .inside ≡ length (openRoutes ps) = t .inside in
+      record {
+        routers = t .routers;
+        prefixes = omega arith;
+        routes = omega arith;
+        inside = omega arith;
+        above = λ a b. some-prefix
+            (λ ps. latest (λ p. rises (p .address) (p .bits) a b) (addRoute ps q) ≡ latest (λ p. rises (p .address) (p .bits) a b) ps)
+            (λ p ps. latest-add a b p ps q) ps some ∙ t .above a b;
+        beyond = λ x. ap (latest (λ q. risesRoute q x)) opens ∙ latest-snoc (λ q. risesRoute q x) (openRoutes ps) q
+            ∙ sym (late-some (k .inside) (r .router) (r .peer) (x .router) (x .peer));
+      }
+
+-- ---- the items
+
+pub items-start : {bs : List ℕ} {n : ℕ} {c : Cursor} → Distances bs n [] c → Items bs c (nothing n)
+items-start {bs} {n} {c} s =
+    let long : length (s .ids) ≡ n = s .long in
+    let count : c .records ≡ 1 + n + length (s .ds) = s .records in
+    record {
+      s = record { ids = s .ids; distances = s .ds; prefixes = [] };
+      same = s .same ∙ distances-none bs (c .at) (s .ids) (s .ds);
+      tells = subst (λ (m : ℕ). Tells (record { ids = s .ids; distances = s .ds; prefixes = [] }) (nothing m)) long (tells-nothing (s .ids) (s .ds));
+      count = omega arith;
+      low = s .low;
+    }
+
+module _ {bs : List ℕ} {c : Cursor} {k : Sofar} (i : Items bs c k) where
+  abbrev at : ℕ
+  at = c .at
+
+  -- ---- a prefix
+  module _ (is : getD bs (c .at) 0 ≡ 4) where
+    abbrev prefixStepOf : Snapshot → prefixStep.the-data
+    prefixStepOf s = judged (prefixRecord s (drop at bs)) (λ f. prefixStep.Refused f at) (λ _. prefixStep.Took (after c prefixForm) (networkAt bs at))
+
+    prefix-cases : {G : Type 0} (x : prefixStep.the-data) → ((s : Snapshot) → Tells s k → x ≡ prefixStepOf s)
+        → ((r : Refusal) → prefixStep.Refused r at ≡ x → reading bs ≡ refused r at → G)
+        → (Holds (prefixRecord (i .s) (drop at bs)) → prefixStep.Took (after c prefixForm) (networkAt bs at) ≡ x
+        → reading bs ≡ items (withPrefixes (i .s) (i .s .prefixes ++ (prefixOf (valuesAt prefixForm bs at) ∷ []))) (at + size prefixForm) (drop (at + size prefixForm) bs) → G)
+        → G
+    prefix-cases x e f g =
+        judged-cases (prefixRecord (i .s) (drop at bs)) (λ f. prefixStep.Refused f at) (λ _. prefixStep.Took (after c prefixForm) (networkAt bs at))
+        (λ r. refused r at) (λ _. items (withPrefixes (i .s) (i .s .prefixes ++ (prefixOf (valuesAt prefixForm bs at) ∷ []))) (at + size prefixForm) (drop (at + size prefixForm) bs))
+        x (sym (e (i .s) (i .tells)))
+        (λ r d h. f r d (i .same ∙ items-one-prefix bs at (i .s) is ∙ h))
+        (λ p d h. g p d (i .same ∙ items-one-prefix bs at (i .s) is ∙ h))
+
+    pub prefix-stop : {r : Refusal} {place : ℕ} → ((s : Snapshot) → Tells s k → prefixStep.Refused r place ≡ prefixStepOf s) → read.Refused r place ≡ told (reading bs)
+    prefix-stop {r} {place} e =
+        prefix-cases (prefixStep.Refused r place) e
+        (λ f d h. (let a : read.Refused r place ≡ read.Refused f at = cc in a) ∙ sym (ap told h))
+        (λ p d h. absurd (let z : _≡_ {A = ℕ} 0 1 = cc in omega arith))
+
+    pub prefix-next : {next : Cursor} {p : Network} → ((s : Snapshot) → Tells s k → prefixStep.Took next p ≡ prefixStepOf s)
+        → (k .prefixes < mostPrefixes) × Items bs next (morePrefix k p) × (c .at < next .at) × (next .at ≤ length bs)
+    unfolding prefixRecord
+    prefix-next {next} {p} e =
+        prefix-cases (prefixStep.Took next p) e
+        (λ f d h. absurd (let z : _≡_ {A = ℕ} 0 1 = cc in omega arith))
+        (λ hold d h.
+        let to : after c prefixForm ≡ next = cc in
+        let is : networkAt bs at ≡ p = cc in
+        let q = passed prefixForm (prefixExtra (i .s)) (prefixValues (i .s)) (drop at bs) hold in
+        let few : length (i .s .prefixes) < mostPrefixes = ltb→lt _ _ (q .free .0) in
+        let count : k .prefixes ≡ length (i .s .prefixes) = i .tells .prefixes in
+        let ps = i .s .prefixes in
+        let one = length-snoc ps (prefixOf (valuesAt prefixForm bs at)) in
+        let sum = routesIn-append ps (prefixOf (valuesAt prefixForm bs at) ∷ []) in
+        let number : c .records ≡ records (i .s) = i .count in
+        let low : c .records ≤ c .at = i .low in
+        let inside = within-body bs at _ (q .whole) in (
+          omega arith,
+          subst (λ (c : Cursor). Items bs c (morePrefix k p)) to
+              (subst (λ (p : Network). Items bs (after c prefixForm) (morePrefix k p)) is
+              (record {
+                s = withPrefixes (i .s) (ps ++ (prefixOf (valuesAt prefixForm bs at) ∷ []));
+                same = h;
+                tells = tells-prefix (i .tells) (networkAt bs at);
+                count = omega arith;
+                low = omega arith;
+              })),
+          subst (λ (n : Cursor). c .at < n .at) to (omega arith),
+          subst (λ (n : Cursor). n .at ≤ length bs) to inside,
+        ))
+
+  -- ---- a route
+  module _ (is : getD bs (c .at) 0 ≡ 5) where
+    abbrev routeStepOf : Snapshot → routeStep.the-data
+    routeStepOf s = judged (routeRecord s (drop at bs)) (λ f. routeStep.Refused f at) (λ _. routeStep.Took (after c routeForm) (routeAt bs at))
+
+    abbrev routed : Snapshot
+    routed = withPrefixes (i .s) (addRoute (i .s .prefixes) (routeOf (valuesAt routeForm bs at)))
+
+    route-cases : {G : Type 0} (x : routeStep.the-data) → ((s : Snapshot) → Tells s k → x ≡ routeStepOf s)
+        → ((r : Refusal) → routeStep.Refused r at ≡ x → reading bs ≡ refused r at → G)
+        → (Holds (routeRecord (i .s) (drop at bs)) → routeStep.Took (after c routeForm) (routeAt bs at) ≡ x
+        → reading bs ≡ items routed (at + size routeForm) (drop (at + size routeForm) bs) → G)
+        → G
+    route-cases x e f g =
+        judged-cases (routeRecord (i .s) (drop at bs)) (λ f. routeStep.Refused f at) (λ _. routeStep.Took (after c routeForm) (routeAt bs at))
+        (λ r. refused r at) (λ _. items routed (at + size routeForm) (drop (at + size routeForm) bs))
+        x (sym (e (i .s) (i .tells)))
+        (λ r d h. f r d (i .same ∙ items-one-route bs at (i .s) is ∙ h))
+        (λ p d h. g p d (i .same ∙ items-one-route bs at (i .s) is ∙ h))
+
+    pub route-stop : {r : Refusal} {place : ℕ} → ((s : Snapshot) → Tells s k → routeStep.Refused r place ≡ routeStepOf s) → read.Refused r place ≡ told (reading bs)
+    route-stop {r} {place} e =
+        route-cases (routeStep.Refused r place) e
+        (λ f d h. (let a : read.Refused r place ≡ read.Refused f at = cc in a) ∙ sym (ap told h))
+        (λ p d h. absurd (let z : _≡_ {A = ℕ} 0 1 = cc in omega arith))
+
+    pub route-next : {next : Cursor} {r : Route} → ((s : Snapshot) → Tells s k → routeStep.Took next r ≡ routeStepOf s)
+        → (k .routes < mostRoutes) × (k .inside < mostInPrefix) × Items bs next (moreRoute k r) × (c .at < next .at) × (next .at ≤ length bs)
+    unfolding routeRecord
+    route-next {next} {r} e =
+        route-cases (routeStep.Took next r) e
+        (λ f d h. absurd (let z : _≡_ {A = ℕ} 0 1 = cc in omega arith))
+        (λ hold d h.
+        let to : after c routeForm ≡ next = cc in
+        let is : routeAt bs at ≡ r = cc in
+        let q = passed routeForm (routeExtra (i .s)) (routeValues (i .s)) (drop at bs) hold in
+        let ps = i .s .prefixes in
+        let some = q .free .0 in
+        let few : length (openRoutes ps) < mostInPrefix = ltb→lt _ _ (q .free .1 .0) in
+        let all : routesIn ps < mostRoutes = ltb→lt _ _ (q .free .1 .1 .0) in
+        let inside : k .inside ≡ length (openRoutes ps) = i .tells .inside in
+        let routes : k .routes ≡ routesIn ps = i .tells .routes in
+        let v : model.Route = routeOf (valuesAt routeForm bs at) in
+        let size : length (addRoute ps v) ≡ length ps = some-prefix (λ ps. length (addRoute ps v) ≡ length ps) (λ p ps. length-add p ps v) ps some in
+        let more : routesIn (addRoute ps v) ≡ suc (routesIn ps) = some-prefix (λ ps. routesIn (addRoute ps v) ≡ suc (routesIn ps)) (λ p ps. routesIn-add p ps v) ps some in
+        let number : c .records ≡ records (i .s) = i .count in
+        let low : c .records ≤ c .at = i .low in
+        let body = within-body bs at _ (q .whole) in (
+          omega arith,
+          omega arith,
+          subst (λ (c : Cursor). Items bs c (moreRoute k r)) to
+              (subst (λ (r : Route). Items bs (after c routeForm) (moreRoute k r)) is
+              (record { s = routed; same = h; tells = tells-route (i .tells) (routeAt bs at) some; count = omega arith; low = omega arith })),
+          subst (λ (n : Cursor). c .at < n .at) to (omega arith),
+          subst (λ (n : Cursor). n .at ≤ length bs) to body,
+        ))
+
+  -- ---- the end
+  module _ (no4 : getD bs (c .at) 0 ≢ 4) (no5 : getD bs (c .at) 0 ≢ 5) where
+    abbrev endStepOf : endStep.the-data
+    endStepOf = judged (endRecord (c .records) (drop at bs)) (λ f. endStep.Refused f at) (λ _. tailStep bs (at + 5))
+
+    last : reading bs ≡ unless (endRecord (c .records) (drop at bs)) at λ _. tail (i .s) (at + size endForm) (drop (at + size endForm) bs)
+    last =
+        i .same ∙ items-last bs at (i .s) no4 no5
+        ∙ ap (λ (n : ℕ). unless (endRecord n (drop at bs)) at λ _. tail (i .s) (at + size endForm) (drop (at + size endForm) bs)) (sym (i .count))
+
+    counts-told : answered k endStep.Ended ≡ told (accepted (i .s))
+    counts-told =
+        let a : k .routers ≡ length (i .s .ids) = i .tells .routers in
+        let b : k .prefixes ≡ length (i .s .prefixes) = i .tells .prefixes in
+        let d : k .routes ≡ routesIn (i .s .prefixes) = i .tells .routes in
+        rw (a, b, d)
+
+    tail-answer : Dec (at + 5 < length bs) → answered k (tailStep bs (at + 5)) ≡ told (tail (i .s) (at + 5) (drop (at + 5) bs))
+    tail-answer (yes h) =
+        ap (λ (b : Bool). answered k (cond b (endStep.Refused Tail (at + 5)) endStep.Ended)) (lt-ltb (at + 5) (length bs) h) ∙ sym (ap told (tail-some bs (at + 5) (i .s) h))
+    tail-answer (no h) =
+        ap (λ (b : Bool). answered k (cond b (endStep.Refused Tail (at + 5)) endStep.Ended)) (le-ltb (at + 5) (length bs) (omega arith)) ∙ counts-told
+        ∙ sym (ap told (tail-none bs (at + 5) (i .s) (omega arith)))
+
+    pub end-answer : answered k endStepOf ≡ told (reading bs)
+    end-answer =
+        judged-cases (endRecord (c .records) (drop at bs)) (λ f. endStep.Refused f at) (λ _. tailStep bs (at + 5))
+        (λ r. refused r at) (λ _. tail (i .s) (at + size endForm) (drop (at + size endForm) bs)) endStepOf refl
+        (λ r d h. sym (ap (answered k) d) ∙ sym (ap told (last ∙ h)))
+        (λ p d h. sym (ap (answered k) d) ∙ tail-answer (decLe (suc (at + 5)) (length bs)) ∙ sym (ap told (last ∙ h)))

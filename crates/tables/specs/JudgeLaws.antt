@@ -1,0 +1,306 @@
+-- Laws by which the loops of judging are proved: what a test that passed, or failed, says of the part that it judges.
+use Prim.Native.Nat.{ℕ, zero, suc, _+_, _-_, _^_, _≤_, _<_, zero-le}
+use native.Mathlib.Omega.{arith}
+use native.Mathlib.Nat.{le-refl}
+use native.Mathlib.Numerals.{add-one}
+use mathlib.Core.Path.{_≡_, refl, sym, ap, _∙_, subst}
+use mathlib.Core.Bool.{Bool, true, false, not, _||_, true≢false, false≢true}
+use mathlib.Core.List.{List, []}
+use mathlib.Core.Logic.{_⊎_, inl, inr}
+use lib.ListN.{length}
+use lib.Dec.{T, eqb, leb, ltb}
+use borrow.Author.Count.{below-none, below-more}
+use borrow.Author.Tests.{eq-eqb, ne-eqb, eqb-true, eqb-false, le-ltb, ltb-false, leb-true, leb-false, not-true, not-false}
+use Rattle.model.specs.Rows.{some, table, column}
+use Rattle.model.specs.Decision.{Route}
+use Rattle.model.specs.LoopLaws.{table-length, by}
+use Rattle.snapshot.specs.declared.Counts.{Counts}
+use Rattle.snapshot.specs.Limits.{mostRouters, mostPrefixes, mostInPrefix, mostRoutes, lastAsn, longestPath, lastOrigin}
+use Rattle.snapshot.specs.Ranges.{none, anyOf, countTests, idTests, prefixTests, routeTests, rises, risesRoute}
+use Rattle.snapshot.specs.RangesLaws.{none-any, none-at}
+use Rattle.snapshot.specs.Records.{routeForm, Fits}
+use Rattle.snapshot.specs.Format.{GoodId, GoodRoute, Each, latest, routeFields}
+use Rattle.snapshot.specs.Tables.{Columns, Tables}
+use Rattle.snapshot.specs.ChecksLaws.{count-range}
+use Rattle.tables.specs.Judging.{RoomPrefixes, prefixTables, routeAt, start, routesAt, prefixAt, cell, cellTests, lateAt, CellGood, RouteGood, PrefixGood, Below, InRange, Totalled, Decides}
+use Rattle.tables.specs.ListsLaws.{latest-table, each-below, below-each}
+
+-- ---- a loop that judges each number below n in turn
+
+-- those below i passed
+pub record SoFar (P : ℕ → Type 0) (n i : ℕ) : Type 0 where
+  pub within : i ≤ n
+  pub passed : Below i P
+
+pub decides-not : {P : Type 0} → (P → ⊥) → Decides P false
+decides-not f = record { yes = λ e. absurd (false≢true e); no = λ _. f }
+
+module _ {P : ℕ → Type 0} {n : ℕ} where
+  pub sofar : SoFar P n 0
+  sofar = record { within = zero-le; passed = below-none P }
+
+  pub sofar-next : {i : ℕ} → SoFar P n i → i < n → P i → SoFar P n (i + 1)
+  sofar-next {i} s l p = record { within = omega arith; passed = below-more P i (s .passed) p }
+
+  pub sofar-all : {i : ℕ} → SoFar P n i → n ≤ i → Below n P
+  sofar-all s l k m = s .passed k (omega arith)
+
+  pub sofar-end : {i : ℕ} → SoFar P n i → n ≤ i → Decides (Below n P) true
+  sofar-end s l = record { yes = λ _. sofar-all s l; no = λ e. absurd (true≢false e) }
+
+  pub sofar-not : {i : ℕ} → i < n → (P i → ⊥) → Decides (Below n P) false
+  sofar-not {i} l f = decides-not (λ h. f (h i l))
+
+-- ---- tests
+
+or-false : (a b : Bool) → (a || b) ≡ false → (a ≡ false) × (b ≡ false)
+or-false true b e = absurd (true≢false e)
+or-false false b e = (refl, e)
+
+pub off : (b : Bool) → T (not b) → b ≡ false
+off true t = absurd t
+off false t = refl
+
+off-yes : {b : Bool} → b ≡ false → T (not b)
+off-yes e = subst (λ (b : Bool). T (not b)) (sym e) tt
+
+-- a list of tests of which one holds, or none
+tests-bad : {b : Bool} (bs : List Bool) → b ≡ anyOf bs → b ≡ true → T (none bs) → ⊥
+tests-bad bs e h t = false≢true (sym (off (anyOf bs) t) ∙ sym e ∙ h)
+
+tests-good : {b : Bool} (bs : List Bool) → b ≡ anyOf bs → b ≡ false → T (none bs)
+tests-good bs e h = none-any bs (sym e ∙ h)
+
+-- ---- counts
+
+module _ (counts : Counts) {bad : Bool} (e : bad ≡ anyOf (countTests (counts .routers))) where
+  abbrev many : Bool
+  many = bad || ltb mostPrefixes (counts .prefixes) || ltb mostRoutes (counts .routes)
+
+  counts-good : many ≡ false → InRange counts
+  counts-good h =
+      let (o, z) = or-false (bad || ltb mostPrefixes (counts .prefixes)) (ltb mostRoutes (counts .routes)) h in
+      let (x, y) = or-false bad (ltb mostPrefixes (counts .prefixes)) o in
+      record {
+        routers = tests-good (countTests (counts .routers)) e x;
+        prefixes = ltb-false mostPrefixes (counts .prefixes) y;
+        routes = ltb-false mostRoutes (counts .routes) z;
+      }
+
+  counts-bad : many ≡ true → InRange counts → ⊥
+  counts-bad h range =
+      let x : bad ≡ false = e ∙ off (anyOf (countTests (counts .routers))) (range .routers) in
+      let y = le-ltb mostPrefixes (counts .prefixes) (range .prefixes) in
+      let z = le-ltb mostRoutes (counts .routes) (range .routes) in
+      false≢true (sym (rw (x, y, z)) ∙ h)
+
+  pub counts-judged : Decides (InRange counts) (not many)
+  counts-judged = record { yes = λ a. counts-good (not-true many a); no = λ a. counts-bad (not-false many a) }
+
+-- so many routers have room
+pub few-routers : {counts : Counts} → InRange counts → counts .routers ≤ mostRouters
+few-routers {counts} range = count-range (counts .routers) (range .routers) .1
+
+-- ---- ids
+
+module _ (before : List ℕ) (id : ℕ) {bad twin : Bool} (e : bad ≡ anyOf (idTests id)) (f : twin ≡ some (eqb id) before) where
+  pub id-good : id < 256 ^ 4 → (bad || twin) ≡ false → GoodId before id
+  id-good fits h =
+      let (x, y) = or-false bad twin h in
+      record { fits = fits; ranges = tests-good (idTests id) e x; alone = off-yes (sym f ∙ y) }
+
+  pub id-bad : (bad || twin) ≡ true → GoodId before id → ⊥
+  id-bad h good =
+      let x : bad ≡ false = e ∙ off (anyOf (idTests id)) (good .ranges) in
+      let y : twin ≡ false = f ∙ off (some (eqb id) before) (good .alone) in
+      false≢true (sym (rw (x, y)) ∙ h)
+
+-- ---- distances
+
+module _ {ds : List ℕ} {from to : ℕ} {bad : Bool} (e : bad ≡ anyOf (cellTests from to (cell ds from to))) where
+  pub cell-good : bad ≡ false → CellGood ds from to
+  cell-good h = record { ranges = tests-good (cellTests from to (cell ds from to)) e h }
+
+  pub cell-bad : bad ≡ true → CellGood ds from to → ⊥
+  cell-bad h good = tests-bad (cellTests from to (cell ds from to)) e h (good .ranges)
+
+-- ---- rows that rise
+
+-- whether the k-th of a table does not rise above the latest before it
+late-is : {A : Type 0} (a b : ℕ → ℕ) (f : ℕ → A) (x y : A → ℕ) (first row k : ℕ) → row ≡ first + k → ((j : ℕ) → x (f j) ≡ a (first + j)) → ((j : ℕ) → y (f j) ≡ b (first + j))
+    → lateAt a b first row ≡ not (latest (λ q. rises (x q) (y q) (a row) (b row)) (table k f))
+late-is a b f x y first row zero e ex ey = rw (eq-eqb first row (omega arith))
+late-is a b f x y first row (suc j) e ex ey =
+    let one : row - 1 ≡ first + j = omega arith in
+    rw (ne-eqb first row (omega arith), latest-table f (λ q. rises (x q) (y q) (a row) (b row)) j, one, ex j, ey j)
+
+not-off : {b : Bool} (c : Bool) → b ≡ not c → b ≡ false → T c
+not-off c e h = subst T (sym (not-false c (sym e ∙ h))) tt
+
+not-on : {b : Bool} (c : Bool) → b ≡ not c → T c → b ≡ false
+not-on c e t = e ∙ ap not (on c t)
+  where
+    on : (c : Bool) → T c → c ≡ true
+    on true t = refl
+    on false t = absurd t
+
+-- ---- routes
+
+-- the fields of four bytes that any number of four bytes may stand in
+pub record Words (r : Route) : Type 0 where
+  pub preference : r .preference < 256 ^ 4
+  pub med : r .med < 256 ^ 4
+  pub nid : r .nid < 256 ^ 4
+  pub peer : r .peer < 256 ^ 4
+
+route-fits : (n : ℕ) (r : Route) → n ≤ mostRouters → T (none (routeTests n r)) → Words r → Fits (routeForm .widths) (routeFields r)
+route-fits n r h t w =
+    let each = none-at (routeTests n r) t in
+    let router = leb-false n (r .router) (each 0) in
+    let asn = ltb-false lastAsn (r .asn) (each 2) in
+    let path = ltb-false longestPath (r .path) (each 4) in
+    let origin = ltb-false lastOrigin (r .origin) (each 5) in
+    let mark = ltb-false 1 (r .mark) (each 6) in
+    (omega arith, (omega arith, (w .preference, (omega arith, (omega arith, (omega arith, (w .med, (w .nid, (w .peer, tt)))))))))
+
+module _ (n : ℕ) (c : Columns) (at k : ℕ) (r : Route) {bad late : Bool} (is : r ≡ routeAt c (at + k)) (e : bad ≡ anyOf (routeTests n r))
+    (f : late ≡ lateAt (column (c .router)) (column (c .peer)) at (at + k)) where
+  abbrev rising : Bool
+  rising = latest (λ q. risesRoute q (routeAt c (at + k))) (routesAt c at k)
+
+  above : late ≡ not rising
+  above =
+      f ∙ late-is (column (c .router)) (column (c .peer)) (λ j. routeAt c (at + j)) (λ q. q .router) (λ q. q .peer) at (at + k) k refl (λ j. refl) (λ j. refl)
+
+  tested : bad ≡ anyOf (routeTests n (routeAt c (at + k)))
+  tested = e ∙ ap (λ (r : Route). anyOf (routeTests n r)) is
+
+  pub route-good : n ≤ mostRouters → Words (routeAt c (at + k)) → (bad || late) ≡ false → RouteGood n c at k
+  route-good few words h =
+      let (x, y) = or-false bad late h in
+      let ranges = tests-good (routeTests n (routeAt c (at + k))) tested x in
+      record { fits = route-fits n (routeAt c (at + k)) few ranges words; obeys = (ranges, (not-off rising above y, tt)) }
+
+  pub route-bad : (bad || late) ≡ true → RouteGood n c at k → ⊥
+  route-bad h good =
+      let x : bad ≡ false = tested ∙ off (anyOf (routeTests n (routeAt c (at + k)))) (good .obeys .0) in
+      let y : late ≡ false = not-on rising above (good .obeys .1 .0) in
+      false≢true (sym (rw (x, y)) ∙ h)
+
+-- ---- prefixes
+
+module _ (n : ℕ) (t : Tables) (p at : ℕ) {bad late : Bool} (here : at ≡ start (t .routes) p) (e : bad ≡ anyOf (prefixTests (column (t .address) p) (column (t .bits) p)))
+    (f : late ≡ lateAt (column (t .address)) (column (t .bits)) 0 p) where
+  abbrev over : Bool
+  over = ltb mostInPrefix (column (t .routes) p)
+
+  abbrev climbing : Bool
+  climbing = latest (λ q. rises (q .address) (q .bits) (column (t .address) p) (column (t .bits) p)) (table p (prefixAt t))
+
+  climbs : late ≡ not climbing
+  climbs =
+      let zero-on : (j : ℕ) → j ≡ 0 + j = λ j. omega arith in
+      f ∙ late-is (column (t .address)) (column (t .bits)) (prefixAt t) (λ q. q .address) (λ q. q .bits) 0 p p (zero-on p)
+      (λ j. ap (column (t .address)) (zero-on j)) (λ j. ap (column (t .bits)) (zero-on j))
+
+  long : length (prefixAt t p .routes) ≡ column (t .routes) p
+  long = table-length (column (t .routes) p) (λ k. routeAt (t .rows) (start (t .routes) p + k))
+
+  pub prefix-bad : (over || bad || late) ≡ true → PrefixGood n t p → ⊥
+  prefix-bad h good =
+      let m : length (prefixAt t p .routes) ≤ mostInPrefix = good .most in
+      let l = long in
+      let o : over ≡ false = le-ltb mostInPrefix (column (t .routes) p) (omega arith) in
+      let x : bad ≡ false = e ∙ off (anyOf (prefixTests (column (t .address) p) (column (t .bits) p))) (good .obeys .0) in
+      let y : late ≡ false = not-on climbing climbs (good .obeys .1 .0) in
+      false≢true (sym (rw (o, x, y)) ∙ h)
+
+  -- where the prefix passed, its routes decide
+  pub prefix-good : {answer : Bool} → column (t .address) p < 256 ^ 4 → (over || bad || late) ≡ false
+      → Decides (Below (column (t .routes) p) (RouteGood n (t .rows) at)) answer → Decides (PrefixGood n t p) answer
+  prefix-good fits h judged =
+      let (o, y) = or-false (over || bad) late h in
+      let (z, x) = or-false over bad o in
+      let m = ltb-false mostInPrefix (column (t .routes) p) z in
+      let l = long in
+      let route : ℕ → ℕ → Route = λ at k. routeAt (t .rows) (at + k) in
+      let count : ℕ = column (t .routes) p in
+      record {
+        yes = λ a. record {
+          fits = fits;
+          obeys = (tests-good (prefixTests (column (t .address) p) (column (t .bits) p)) e x, (not-off climbing climbs y, tt));
+          most = omega arith;
+          routes = subst (λ (at : ℕ). Each (GoodRoute n) [] (table count (route at))) here (below-each (GoodRoute n) (route at) count (judged .yes a));
+        };
+        no = λ a good. judged .no a (each-below (GoodRoute n) (route at) count (subst (λ (at : ℕ). Each (GoodRoute n) [] (table count (route at))) (sym here) (good .routes)));
+      }
+
+pub start-next : (routes : List ℕ) (p : ℕ) → start routes (p + 1) ≡ start routes p + column routes p
+unfolding start
+start-next routes p = rw add-one
+
+pub start-first : (routes : List ℕ) → start routes 0 ≡ 0
+unfolding start
+start-first routes = refl
+
+pub start-up : (routes : List ℕ) (p q : ℕ) → p ≤ q → start routes p ≤ start routes q
+unfolding start
+start-up routes p zero l = ap≤ (let e : p ≡ 0 = omega arith in e)
+  where
+    ap≤ : p ≡ 0 → start routes p ≤ start routes 0
+    ap≤ e = subst (λ (k : ℕ). start routes k ≤ start routes 0) (sym e) (le-refl (start routes 0))
+start-up routes p (suc q) l = go (le-or p q l) (start-up routes p q)
+  where
+    le-or : (p q : ℕ) → p ≤ suc q → (p ≡ suc q) ⊎ (p ≤ q)
+    le-or p q l = by (leb p q) (λ e. inr (leb-true p q e)) (λ e. inl (let m = leb-false p q e in omega arith))
+
+    go : (p ≡ suc q) ⊎ (p ≤ q) → (p ≤ q → start routes p ≤ start routes q) → start routes p ≤ start routes q + column routes q
+    go (inl e) ih = subst (λ (k : ℕ). start routes k ≤ start routes (suc q)) (sym e) (le-refl (start routes (suc q)))
+    go (inr m) ih = let h = ih m in omega arith
+
+-- the routes of a prefix end before those of all end
+pub start-within : (routes : List ℕ) (p n : ℕ) → p < n → start routes p + column routes p ≤ start routes n
+start-within routes p n l =
+    let s = start-next routes p in
+    let up = start-up routes (p + 1) n (omega arith) in
+    omega arith
+
+-- those below p passed, and their routes end at `at`
+pub record Counting (counts : Counts) (t : Tables) (p at : ℕ) : Type 0 where
+  pub passed : SoFar (PrefixGood (counts .routers) t) (counts .prefixes) p
+  pub here : at ≡ start (t .routes) p
+  pub within : at ≤ counts .routes
+
+module _ {counts : Counts} {t : Tables} where
+  pub counting : Counting counts t 0 0
+  counting = record { passed = sofar; here = sym (start-first (t .routes)); within = zero-le }
+
+  module _ {p at : ℕ} (c : Counting counts t p at) where
+    module _ (l : p < counts .prefixes) where
+      pub counting-next : {next : ℕ} → next ≡ at + column (t .routes) p → next ≤ counts .routes → PrefixGood (counts .routers) t p → Counting counts t (p + 1) next
+      counting-next e m good =
+          let h = c .here in
+          let s = start-next (t .routes) p in
+          record { passed = sofar-next (c .passed) l good; here = omega arith; within = m }
+
+      pub counting-over : counts .routes < at + column (t .routes) p → Decides (Totalled counts t) false
+      counting-over m =
+          let h = c .here in
+          let s = start-within (t .routes) p (counts .prefixes) l in
+          decides-not (λ total. let sum = total .1 in omega arith)
+
+      pub counting-not : (PrefixGood (counts .routers) t p → ⊥) → Decides (Totalled counts t) false
+      counting-not f = decides-not (λ total. f (total .0 p l))
+
+    pub counting-end : counts .prefixes ≤ p → Decides (Totalled counts t) (eqb at (counts .routes))
+    counting-end l =
+        let w = c .passed .within in
+        let sum : at ≡ start (t .routes) (counts .prefixes) = c .here ∙ ap (start (t .routes)) (let e : p ≡ counts .prefixes = omega arith in e) in
+        record {
+          yes = λ e. (sofar-all (c .passed) l, sym sum ∙ eqb-true at (counts .routes) e);
+          no = λ e total. eqb-false at (counts .routes) e (sum ∙ total .1);
+        }
+
+-- the tables of prefixes have their room alone
+pub room-alone : {t : Tables} → RoomPrefixes t → RoomPrefixes (prefixTables (t .address) (t .bits) (t .routes) (t .rows))
+room-alone room = record { address = room .address; bits = room .bits; routes = room .routes; rows = room .rows }

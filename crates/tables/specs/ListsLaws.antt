@@ -1,0 +1,156 @@
+-- Laws of lists that are f at each number below n, and of lists that are stored into others.
+use Prim.Native.Nat.{ℕ, zero, suc, _+_, _≤_, _<_}
+use native.Mathlib.Nat.{not-suc-le-zero}
+use native.Mathlib.Omega.{arith}
+use mathlib.Core.Path.{_≡_, refl, sym, ap, _∙_, subst, subst₂}
+use mathlib.Core.Bool.{Bool, true, false, _||_, false≢true}
+use mathlib.Core.List.{List, [], _∷_, _++_, map, append-nil, append-assoc}
+use lib.ListN.{length, getD, take, drop, take-append-drop, List·getD-append}
+use lib.Seq.{sets, sets-eq, length-sets, drop-append-seam, ext-getD, getD-drop, getD-take}
+use lib.ListN.{length-take, length-drop}
+use Rattle.model.specs.Rows.{some, span, table, column}
+use Rattle.model.specs.LoopLaws.{table-length, table-at, table-same, by}
+use Rattle.snapshot.specs.Format.{Each, latest}
+use Rattle.snapshot.specs.ChecksLaws.{latest-snoc}
+use Rattle.tables.specs.Judging.{Below}
+
+-- ---- tables joined, and seen as lists
+
+module _ {A : Type 0} (f : ℕ → A) where
+  span-append : (from m n : ℕ) → map f (span from (m + n)) ≡ map f (span from m) ++ map f (span (from + m) n)
+  span-append from zero n =
+      ap (λ (k : ℕ). map f (span from k)) (let e : 0 + n ≡ n = omega arith in e) ∙ ap (λ (k : ℕ). map f (span k n)) (let e : from ≡ from + 0 = omega arith in e)
+  span-append from (suc m) n =
+      ap (λ (k : ℕ). map f (span from k)) (let e : suc m + n ≡ suc (m + n) = omega arith in e)
+      ∙ ap (λ (l : List A). f from ∷ l) (span-append (suc from) m n)
+      ∙ ap (λ (k : ℕ). f from ∷ (map f (span (suc from) m) ++ map f (span k n))) (let e : suc from + m ≡ from + suc m = omega arith in e)
+
+  span-shift : (m from n : ℕ) → map f (span (m + from) n) ≡ map (λ k. f (m + k)) (span from n)
+  span-shift m from zero = refl
+  span-shift m from (suc n) =
+      ap (λ (l : List A). f (m + from) ∷ l)
+      (ap (λ (k : ℕ). map f (span k n)) (let e : suc (m + from) ≡ m + suc from = omega arith in e) ∙ span-shift m (suc from) n)
+
+  pub table-append : (m n : ℕ) → table (m + n) f ≡ table m f ++ table n (λ k. f (m + k))
+  table-append m n =
+      span-append 0 m n
+      ∙ ap (λ (k : ℕ). table m f ++ map f (span k n)) (let e : 0 + m ≡ m + 0 = omega arith in e)
+      ∙ ap (λ (l : List A). table m f ++ l) (span-shift m 0 n)
+
+  pub table-snoc : (n : ℕ) → table (suc n) f ≡ table n f ++ (f n ∷ [])
+  table-snoc n =
+      ap (λ (k : ℕ). table k f) (let e : suc n ≡ n + 1 = omega arith in e) ∙ table-append n 1
+      ∙ ap (λ (k : ℕ). table n f ++ (f k ∷ [])) (let e : n + 0 ≡ n = omega arith in e)
+
+  pub latest-table : (test : A → Bool) (n : ℕ) → latest test (table (suc n) f) ≡ test (f n)
+  latest-table test n = ap (latest test) (table-snoc n) ∙ latest-snoc test (table n f) (f n)
+
+-- a list is the table of its members
+pub as-table : {A : Type 0} (d : A) (xs : List A) → xs ≡ table (length xs) (λ k. getD xs k d)
+as-table d xs =
+    ext-getD d xs (table (length xs) (λ k. getD xs k d)) (sym (table-length (length xs) (λ k. getD xs k d)))
+    (λ k l. sym (table-at (λ k. getD xs k d) d (length xs) k l))
+
+pub map-at : {A B : Type 0} (f : A → B) (xs : List A) (d : A) (e : B) (k : ℕ) → k < length xs → getD (map f xs) k e ≡ f (getD xs k d)
+map-at f [] d e k l = absurd (not-suc-le-zero l)
+map-at f (x ∷ xs) d e zero l = refl
+map-at f (x ∷ xs) d e (suc k) l = map-at f xs d e k (omega arith)
+
+-- a part of a column is the table of its entries
+pub table-part : (xs : List ℕ) (at n : ℕ) → at + n ≤ length xs → table n (λ k. column xs (at + k)) ≡ take n (drop at xs)
+table-part xs at n h =
+    let f : ℕ → ℕ = λ k. column xs (at + k) in
+    let e = table-length n f in
+    let d : length (take n (drop at xs)) ≡ n = simp (length-take, length-drop) (omega arith) in
+    ext-getD 0 (table n f) (take n (drop at xs)) (omega arith)
+    (λ k l. let m : k < n = omega arith in table-at f 0 n k m ∙ sym (getD-take n (drop at xs) k 0 m ∙ getD-drop at xs k 0))
+
+pub table-take : (xs : List ℕ) (n : ℕ) → n ≤ length xs → table n (column xs) ≡ take n xs
+table-take xs n h =
+    table-same (column xs) (λ k. column xs (0 + k)) n (λ k l. ap (column xs) (let e : k ≡ 0 + k = omega arith in e))
+    ∙ table-part xs 0 n (omega arith)
+
+-- ---- each member, given those before it
+
+module _ {A : Type 0} (good : List A → A → Type 0) (f : ℕ → A) where
+  each-from : (before : List A) (from n : ℕ) → Each good before (map f (span from n)) → Below n (λ k. good (before ++ map f (span from k)) (f (from + k)))
+  each-from before from zero e k l = absurd (not-suc-le-zero l)
+  each-from before from (suc n) e zero l = subst₂ good (sym (append-nil before)) (ap f (let z : from ≡ from + 0 = omega arith in z)) (e .0)
+  each-from before from (suc n) e (suc k) l =
+      subst₂ good (append-assoc before (f from ∷ []) (map f (span (suc from) k))) (ap f (let z : suc from + k ≡ from + suc k = omega arith in z))
+      (each-from (before ++ (f from ∷ [])) (suc from) n (e .1) k (omega arith))
+
+  from-each : (before : List A) (from n : ℕ) → Below n (λ k. good (before ++ map f (span from k)) (f (from + k))) → Each good before (map f (span from n))
+  from-each before from zero h = tt
+  from-each before from (suc n) h = (
+    subst₂ good (append-nil before) (ap f (let z : from + 0 ≡ from = omega arith in z)) (h 0 (omega arith)),
+    from-each (before ++ (f from ∷ [])) (suc from) n
+        (λ k l.
+        subst₂ good (sym (append-assoc before (f from ∷ []) (map f (span (suc from) k)))) (ap f (let z : from + suc k ≡ suc from + k = omega arith in z))
+        (h (suc k) (omega arith))),
+  )
+
+  pub each-below : (n : ℕ) → Each good [] (table n f) → Below n (λ k. good (table k f) (f k))
+  each-below n e k l = subst (λ (x : A). good (table k f) x) (ap f (let z : 0 + k ≡ k = omega arith in z)) (each-from [] 0 n e k l)
+
+  pub below-each : (n : ℕ) → Below n (λ k. good (table k f) (f k)) → Each good [] (table n f)
+  below-each n h = from-each [] 0 n (λ k l. subst (λ (x : A). good (table k f) x) (ap f (let z : k ≡ 0 + k = omega arith in z)) (h k l))
+
+-- ---- whether some member passes a test
+
+module _ (test : ℕ → Bool) (f : ℕ → ℕ) where
+  none-from : (from n : ℕ) → ((k : ℕ) → k < n → test (f (from + k)) ≡ false) → some test (map f (span from n)) ≡ false
+  none-from from zero h = refl
+  none-from from (suc n) h =
+      let here : test (f from) ≡ false = ap (λ (k : ℕ). test (f k)) (let z : from ≡ from + 0 = omega arith in z) ∙ h 0 (omega arith) in
+      let later = none-from (suc from) n (λ k l. ap (λ (k : ℕ). test (f k)) (let z : suc from + k ≡ from + suc k = omega arith in z) ∙ h (suc k) (omega arith)) in
+      rw (here, later)
+
+  pub none-table : (n : ℕ) → Below n (λ k. test (f k) ≡ false) → some test (table n f) ≡ false
+  none-table n h = none-from 0 n (λ k l. ap (λ (k : ℕ). test (f k)) (let z : 0 + k ≡ k = omega arith in z) ∙ h k l)
+
+  some-from : (from n k : ℕ) → k < n → test (f (from + k)) ≡ true → some test (map f (span from n)) ≡ true
+  some-from from zero k l e = absurd (not-suc-le-zero l)
+  some-from from (suc n) zero l e = rw (ap (λ (k : ℕ). test (f k)) (let z : from ≡ from + 0 = omega arith in z) ∙ e)
+  some-from from (suc n) (suc k) l e =
+      let later = some-from (suc from) n k (omega arith) (ap (λ (k : ℕ). test (f k)) (let z : suc from + k ≡ from + suc k = omega arith in z) ∙ e) in
+      or-true (test (f from)) later
+    where
+      or-true : (a : Bool) {b : Bool} → b ≡ true → (a || b) ≡ true
+      or-true true e = refl
+      or-true false e = e
+
+  pub some-table : (n k : ℕ) → k < n → test (f k) ≡ true → some test (table n f) ≡ true
+  some-table n k l e = some-from 0 n k l (ap (λ (k : ℕ). test (f k)) (let z : 0 + k ≡ k = omega arith in z) ∙ e)
+
+  pub table-none : (n : ℕ) → some test (table n f) ≡ false → Below n (λ k. test (f k) ≡ false)
+  table-none n e k l = by (test (f k)) (λ t. absurd (false≢true (sym e ∙ some-table n k l t))) (λ t. t)
+
+-- ---- a list that stands at the front of another
+
+module _ (xs vs : List ℕ) (long : length vs ≤ length xs) where
+  pub sets-front : sets xs 0 vs ≡ vs ++ drop (length vs) xs
+  sets-front = sets-eq vs xs 0 (omega arith) ∙ ap (λ (k : ℕ). vs ++ drop k xs) (let z : 0 + length vs ≡ length vs = omega arith in z)
+
+  -- where to store it would change nothing, it is there
+  pub stands : sets xs 0 vs ≡ xs → (k : ℕ) → k < length vs → getD vs k 0 ≡ column xs k
+  stands e k l = sym (List·getD-append vs (drop (length vs) xs) 0 k l) ∙ ap (λ (l : List ℕ). getD l k 0) (sym sets-front ∙ e)
+
+-- to store it twice is to store it once
+pub sets-twice : (xs vs : List ℕ) → length vs ≤ length xs → sets (sets xs 0 vs) 0 vs ≡ sets xs 0 vs
+sets-twice xs vs h =
+    let long = length-sets xs 0 vs in
+    let once = sets-front xs vs h in
+    sets-front (sets xs 0 vs) vs (omega arith)
+    ∙ ap (λ (d : List ℕ). vs ++ drop (length vs) d) once
+    ∙ ap (λ (d : List ℕ). vs ++ d) (drop-append-seam vs (drop (length vs) xs))
+    ∙ sym once
+
+-- and what is there is stored with no change
+pub stays : (xs : List ℕ) (n : ℕ) → n ≤ length xs → sets xs 0 (table n (column xs)) ≡ xs
+stays xs n h =
+    let e = table-length n (column xs) in
+    sets-front xs (table n (column xs)) (omega arith)
+    ∙ ap (λ (k : ℕ). table n (column xs) ++ drop k xs) e
+    ∙ ap (λ (l : List ℕ). l ++ drop n xs) (table-take xs n h)
+    ∙ take-append-drop n xs

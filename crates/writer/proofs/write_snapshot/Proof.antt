@@ -1,0 +1,43 @@
+-- `write_snapshot` meets its contract. Assumes nothing.
+use denote.Ref.{now}
+use borrow.Author.Needs.{needs}
+use Rattle.snapshot.specs.Tables.{Tables, tables, columns}
+use Rattle.writer.specs.WritingLaws.{writes-no, verdict-good}
+use Rattle.writer.proofs.write_snapshot.Statement.{statement}
+use Rattle.writer.proofs.write_snapshot.Tie as tie
+
+-- the lent tables
+abbrev lent : tie.Start → Tables
+lent s =
+    tables (now (s .args .ids)) (now (s .args .distances)) (now (s .args .address)) (now (s .args .bits)) (now (s .args .routes))
+    (columns (now (s .args .router)) (now (s .args .asn)) (now (s .args .preference)) (now (s .args .path)) (now (s .args .origin))
+    (now (s .args .mark)) (now (s .args .med)) (now (s .args .nid)) (now (s .args .peer)))
+
+-- the entry, which lies far back
+abbrev start-of : tie.After-examine → tie.Start
+start-of c = search needs
+
+write-held-requires : tie.Need-write-held-requires
+write-held-requires c κs =
+    let told : tie.After-enum-told = search needs in
+    let seen : tie.After-examine = search needs in
+    verdict-good (told .enum-told .given .1) (seen .examine .ensures)
+
+returns : tie.Need-returns
+returns c =
+    let seen : tie.After-examine = search needs in
+    let bound : tie.After-r = search needs in
+    let start = start-of seen in
+    writes-no (start .args .counts) (lent start) (now (start .args .out)) (bound .r .given .1) (seen .examine .ensures)
+
+pub write-snapshot-spec : {M : Type 1} → statement M
+write-snapshot-spec =
+    tie.close
+    (tie.spec
+    (λ c κs. search needs)
+    (λ c. search needs)
+    (λ c. search needs)
+    write-held-requires
+    returns
+    (λ c. search needs)
+    (λ c. search needs))

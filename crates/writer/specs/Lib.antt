@@ -1,0 +1,4 @@
+pub mod Writing
+pub mod SectionsLaws
+pub mod WritingLaws
+pub mod RoundTripLaws

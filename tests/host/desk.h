@@ -1,0 +1,55 @@
+/* Shared by the tests of the host call: counting, asking and comparing every byte, and snapshots made by hand. */
+#ifndef DESK_H
+#define DESK_H
+
+#include "barrierose.h"
+
+#include <stdbool.h>
+
+/* One check; it says so on standard output if it fails. */
+void check(bool right, const char *what);
+
+/* Prints 'N passed, M failed'; the value to return from main. */
+int report(void);
+
+/* What an area holds at this place before a call: bytes that differ, so that a moved one is seen too. */
+uint8_t before(size_t place);
+
+/* Asks in an area of area_len bytes and checks that the number is the one wanted and that no byte has changed. */
+void refused(const char *what, const uint8_t *snapshot, size_t length, uint32_t prefix, size_t area_len,
+             uint32_t wanted);
+
+/* Asks and checks the number, the rows (early and late in turn for each router), and that all other bytes stay. */
+void answered(const char *what, const uint8_t *snapshot, size_t length, uint32_t prefix, size_t area_len,
+              uint32_t wanted, const uint16_t *rows, size_t routers);
+
+/* Whether an area that held before(0), before(1) .. has these rows at its head and is otherwise as it was. */
+bool holds(const uint8_t *area, size_t area_len, const uint16_t *rows, size_t routers);
+
+/* Case P5 of document 01, and its rows as document 01 prints them. */
+#define P5_LENGTH 169
+extern const uint8_t p5[P5_LENGTH];
+extern const uint16_t p5_rows[2 * 3];
+
+/* A snapshot on its way, with room for some bytes more than the longest has. */
+struct making {
+    uint8_t bytes[BARRIEROSE_LONGEST + 1000];
+    size_t length;
+    uint32_t records;
+};
+
+/* Begins with this many routers: ids 1, 2, 3 .. and all distances 1. */
+void make_network(struct making *making, uint8_t routers);
+void make_prefix(struct making *making, uint32_t address, uint8_t length);
+
+/* Path 2, origin 0, MED present. */
+void make_route(struct making *making, uint8_t router, uint16_t neighbour_as, uint32_t preference, uint32_t med,
+                uint32_t neighbour_id, uint32_t peer);
+
+/* The end record, with the right number. */
+void make_end(struct making *making);
+
+/* The longest snapshot: 64 routers, 64 prefixes, 16 equal routes in each, all at router 0. */
+void make_longest(struct making *making);
+
+#endif

@@ -1,0 +1,56 @@
+/* The host call from several threads at once, each with its own snapshot and area and with an answer known by hand. */
+#include "desk.h"
+
+#include <pthread.h>
+#include <string.h>
+
+#define THREADS 4
+#define CALLS 3000
+
+struct caller {
+    uint8_t snapshot[P5_LENGTH];
+    uint32_t wanted;
+    const uint16_t *rows;
+    size_t routers;
+    unsigned wrong;
+};
+
+static void *calling(void *argument) {
+    struct caller *caller = argument;
+    for (int number = 0; number < CALLS; number++) {
+        uint8_t area[BARRIEROSE_AREA];
+        for (size_t place = 0; place < sizeof area; place++) {
+            area[place] = before(place);
+        }
+        uint32_t given = barrierose_forecast(caller->snapshot, P5_LENGTH, 0, area, sizeof area);
+        if (given != caller->wanted || !holds(area, sizeof area, caller->rows, caller->routers)) {
+            caller->wrong++;
+        }
+    }
+    return NULL;
+}
+
+int main(void) {
+    /* As P5; as P5; its row 0 with origin 2, which settles it; an end record that says 14. */
+    static const uint16_t settled[2 * 3] = {1, 1, 3, 3, 1, 1};
+    static struct caller callers[THREADS] = {
+        {.wanted = 3, .rows = p5_rows, .routers = 3},
+        {.wanted = 3, .rows = p5_rows, .routers = 3},
+        {.wanted = 0, .rows = settled, .routers = 3},
+        {.wanted = 109},
+    };
+    for (int number = 0; number < THREADS; number++) {
+        memcpy(callers[number].snapshot, p5, P5_LENGTH);
+    }
+    callers[2].snapshot[78] = 2;
+    callers[3].snapshot[168] = 14;
+    pthread_t threads[THREADS];
+    for (int number = 0; number < THREADS; number++) {
+        check(pthread_create(&threads[number], NULL, calling, &callers[number]) == 0, "a thread begins");
+    }
+    for (int number = 0; number < THREADS; number++) {
+        check(pthread_join(threads[number], NULL) == 0, "a thread ends");
+        check(callers[number].wrong == 0, "every answer as if the thread were alone");
+    }
+    return report();
+}
