@@ -1,2 +1,0 @@
-pub mod Page
-pub mod PageLaws
