@@ -239,16 +239,16 @@ module _ (counts : Counts) (t : Tables) (p : ℕ) (roomy : Room t) (holding : Ho
   abbrev s : Snapshot
   s = holding .snapshot
 
-  n-is : counts .routers ≡ length (s .ids)
+  pub n-is : counts .routers ≡ length (s .ids)
   n-is = ap (λ (c : Counts). c .routers) (holding .held .0)
 
-  there : p < length (s .prefixes)
+  pub there : p < length (s .prefixes)
   there = omega (arith, ap (λ (c : Counts). c .prefixes) (holding .held .0))
 
   few : counts .routers ≤ mostRouters
   few = omega (arith, n-is, routers-few (holding .valid))
 
-  same-parts : parts (t .routes) p (whole t) ≡ columnsOf (routesOf s p)
+  pub same-parts : parts (t .routes) p (whole t) ≡ columnsOf (routesOf s p)
   same-parts = parts-are roomy (holding .valid) (holding .held) p there
 
   placed : Placed (counts .routers) (t .ids) (t .distances) (columnsOf (routesOf s p))
@@ -282,7 +282,7 @@ module _ (counts : Counts) (t : Tables) (p : ℕ) (roomy : Room t) (holding : Ho
   pub fits-in : start (t .routes) p + column (t .routes) p ≤ mostRoutes
   fits-in = omega (arith, held-count roomy (holding .valid) (holding .held) p below, held-fits roomy (holding .valid) (holding .held) p below)
 
-  pair : (early (lent roomy (holding .valid) (holding .held) p there) ≡ early (mesh s p)) × (late (lent roomy (holding .valid) (holding .held) p there) ≡ late (mesh s p))
+  pub pair : (early (lent roomy (holding .valid) (holding .held) p there) ≡ early (mesh s p)) × (late (lent roomy (holding .valid) (holding .held) p there) ≡ late (mesh s p))
   pair =
       let M = mesh s p in
       let L = lent roomy (holding .valid) (holding .held) p there in
@@ -334,10 +334,3 @@ module _ (counts : Counts) (t : Tables) (p : ℕ) (roomy : Room t) (holding : Ho
           where
             counted : List ℕ → Differing
             counted rs = record { word = word rs; number = length rs }
-
-    -- and its rows are those of that prefix of the snapshot
-    pub same-early : early (lentMesh (counts .routers) (t .ids) (t .distances) (cut first (end - first) (whole t))) ≡ early (mesh s p)
-    same-early = ap (λ (c : Columns). early (lentMesh (counts .routers) (t .ids) (t .distances) c)) cut-is ∙ pair .0
-
-    pub same-late : late (lentMesh (counts .routers) (t .ids) (t .distances) (cut first (end - first) (whole t))) ≡ late (mesh s p)
-    same-late = ap (λ (c : Columns). late (lentMesh (counts .routers) (t .ids) (t .distances) c)) cut-is ∙ pair .1
