@@ -19,6 +19,10 @@ use Rattle.snapshot.specs.Ranges.{anyOf}
 use Rattle.snapshot.specs.Tables.{Tables, short, mesh}
 use Rattle.tables.specs.Judging.{start}
 use Rattle.outlook.specs.Outlook.{cut, Part}
+use lib.Seq.{sets}
+use Rattle.refusal.specs.declared.Refusal.the-variants.{Room}
+use Rattle.page.specs.declared.Rendered.{Rendered}
+use Rattle.page.specs.declared.Rendered.the-variants.{Text, Refused}
 use Rattle.text.specs.Text.{each}
 use Rattle.lines.specs.Lines.{widest, headingLine, refusedLine, prefixLine, routerLine}
 
@@ -64,6 +68,13 @@ answerText (refused r at) = refusedLine (numberOf r) at
 -- the page of a snapshot's bytes
 unfoldable pub page : List ℕ → List ℕ
 page bs = answerText (reading bs)
+
+-- what rendering these bytes into a buffer answers, and what the buffer holds afterwards
+pub data Renders (bs out : List ℕ) : Rendered → List ℕ → Type 0 where
+  -- not every page would fit
+  room : length out < widestPage → Renders bs out (Refused Room 0) out
+  -- the page stands at the start, all other bytes are as before
+  text : widestPage ≤ length out → Renders bs out (Text (length (page bs))) (sets out 0 (page bs))
 
 -- ---- what the code knows of lent tables
 

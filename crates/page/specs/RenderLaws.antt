@@ -34,7 +34,9 @@ use Rattle.reader.specs.ReadLaws.{was-refused, was-accepted, tables-left}
 use Rattle.lines.specs.Lines.{widest, headingLine, refusedLine}
 use Rattle.text.specs.Text.{each, Puts}
 use Rattle.text.specs.TextLaws.{puts-as}
-use Rattle.page.specs.Page.{block, decidedText, prefixOf, snapshotText, answerText, page, widestBlock, widestPage, lentText, Blocks, Ready}
+use Rattle.page.specs.declared.Rendered.{Rendered}
+use Rattle.page.specs.declared.Rendered.the-variants.{Text}
+use Rattle.page.specs.Page.{block, decidedText, prefixOf, snapshotText, answerText, page, widestBlock, widestPage, lentText, Blocks, Ready, Renders, room, text}
 
 -- texts that agree for each number of a list
 each-same : (f g : ℕ → List ℕ) (rs : List ℕ) → ((r : ℕ) → In r rs → f r ≡ g r) → each f rs ≡ each g rs
@@ -43,14 +45,14 @@ each-same f g (r ∷ rs) h = ap₂ {C = List ℕ} _++_ (h r (here refl)) (each-s
 
 -- ---- tables that hold a snapshot
 
-module _ (counts : Counts) (t : Tables) (room : Room t) (holding : Holding counts t) where
+module _ (counts : Counts) (t : Tables) (roomy : Room t) (holding : Holding counts t) where
   pub blocks : (early late : List ℕ) → mostRouters ≤ length early → mostRouters ≤ length late
       → Blocks (counts .routers) (counts .prefixes) (t .ids) (t .distances) (t .address) (t .bits) (t .routes) (whole t) (length early) (length late)
   blocks early late re rl = record {
-    addresses = omega (arith, few, room .prefixes .address);
-    lengths = omega (arith, few, room .prefixes .bits);
-    numbers = omega (arith, few, room .prefixes .routes);
-    part = λ p first end l f e early₁ late₁ a b. part-of counts t p room holding l f e early₁ late₁ (omega arith) (omega arith);
+    addresses = omega (arith, few, roomy .prefixes .address);
+    lengths = omega (arith, few, roomy .prefixes .bits);
+    numbers = omega (arith, few, roomy .prefixes .routes);
+    part = λ p first end l f e early₁ late₁ a b. part-of counts t p roomy holding l f e early₁ late₁ (omega arith) (omega arith);
   }
     where
       few : counts .prefixes ≤ mostPrefixes
@@ -69,11 +71,11 @@ module _ (counts : Counts) (t : Tables) (room : Room t) (holding : Holding count
       → lentText (counts .routers) (t .ids) (t .distances) (t .address) (t .bits) (t .routes) (whole t) p ≡ prefixOf s p
   prefix-text p l =
       ap₂ (λ (a b : ℕ). decidedText a b (lentMesh (counts .routers) (t .ids) (t .distances) (cut (start (t .routes) p) (column (t .routes) p) (whole t))))
-      (entry (t .address) addresses (ap (λ (u : Tables). u .address) (holding .held .1)) (omega (arith, n (λ q. q .address), few, room .prefixes .address)) p (omega (arith, n (λ q. q .address), below)))
-      (entry (t .bits) lengths (ap (λ (u : Tables). u .bits) (holding .held .1)) (omega (arith, n (λ q. q .bits), few, room .prefixes .bits)) p (omega (arith, n (λ q. q .bits), below)))
-      ∙ ap (λ (c : Columns). decidedText (getD addresses p 0) (getD lengths p 0) (lentMesh (counts .routers) (t .ids) (t .distances) c)) (same-parts counts t p room holding l)
-      ∙ ap (λ (k : ℕ). rows k (early L) (late L)) (n-is counts t p room holding l)
-      ∙ ap₂ (rows (length (s .ids))) (pair counts t p room holding l .0) (pair counts t p room holding l .1)
+      (entry (t .address) addresses (ap (λ (u : Tables). u .address) (holding .held .1)) (omega (arith, n (λ q. q .address), few, roomy .prefixes .address)) p (omega (arith, n (λ q. q .address), below)))
+      (entry (t .bits) lengths (ap (λ (u : Tables). u .bits) (holding .held .1)) (omega (arith, n (λ q. q .bits), few, roomy .prefixes .bits)) p (omega (arith, n (λ q. q .bits), below)))
+      ∙ ap (λ (c : Columns). decidedText (getD addresses p 0) (getD lengths p 0) (lentMesh (counts .routers) (t .ids) (t .distances) c)) (same-parts counts t p roomy holding l)
+      ∙ ap (λ (k : ℕ). rows k (early L) (late L)) (n-is counts t p roomy holding l)
+      ∙ ap₂ (rows (length (s .ids))) (pair counts t p roomy holding l .0) (pair counts t p roomy holding l .1)
     where
       below : p < length (s .prefixes)
       below = omega (arith, ap (λ (c : Counts). c .prefixes) (holding .held .0))
@@ -91,7 +93,7 @@ module _ (counts : Counts) (t : Tables) (room : Room t) (holding : Holding count
       lengths = map (λ q. q .bits) (s .prefixes)
 
       L : Mesh
-      L = lent room (holding .valid) (holding .held) p below
+      L = lent roomy (holding .valid) (holding .held) p below
 
       -- a block by the number of routers and the rows
       rows : ℕ → List ℕ → List ℕ → List ℕ
@@ -146,3 +148,17 @@ module _ (bs : List ℕ) (t : Tables) (early late out : List ℕ) (ready : Ready
         };
         text = ap answerText is;
       }
+
+-- ---- one answer
+
+pub rendered-text : (bs out : List ℕ) {end : ℕ} {after : List ℕ} → widestPage ≤ length out → Puts out after 0 end (page bs) → Renders bs out (Text end) after
+rendered-text bs out {end} {after} l p =
+    let e : end ≡ length (page bs) = omega (arith, p .place) in
+    subst₂ (λ (n : ℕ) (x : List ℕ). Renders bs out (Text n) x) (sym e) (sym (p .bytes)) (text l)
+
+-- two results that meet the promise are equal
+pub renders-one : {bs out : List ℕ} {a b : Rendered} {x y : List ℕ} → Renders bs out a x → Renders bs out b y → (a ≡ b) × (x ≡ y)
+renders-one (room h) (room k) = (refl, refl)
+renders-one (room h) (text k) = absurd (omega arith)
+renders-one (text h) (room k) = absurd (omega arith)
+renders-one (text h) (text k) = (refl, refl)

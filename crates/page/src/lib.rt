@@ -15,7 +15,7 @@ ghost use Rattle.model.specs.Columns.{columns, lentMesh};
 ghost use Rattle.outlook.specs.Outlook.{cut, Part};
 ghost use Rattle.text.specs.Text.{each, Puts};
 ghost use Rattle.lines.specs.Lines.{widest, headingLine, routerLine};
-ghost use Rattle.page.specs.Page.{Rows, block, widestBlock, decidedText, lentText, Blocks, Ready, page};
+ghost use Rattle.page.specs.Page.{Rows, block, widestBlock, decidedText, lentText, Blocks, Ready, page, Renders};
 
 // Puts the line of every router.
 fn put_routers(
@@ -215,7 +215,7 @@ fn put_tables(
 }
 
 // Reads a snapshot into tables and areas that are lent for it, and puts its page.
-fn rendered(
+fn put_page(
     input: &[u8],
     out: &mut [u8],
     ids: &mut [u32],
@@ -276,4 +276,59 @@ fn rendered(
             late,
         ),
     }
+}
+
+// What rendering answers: how many bytes the page has, or a refusal with its place.
+pub enum Rendered {
+    Text(usize),
+    Refused(Refusal, usize),
+}
+
+// The most bytes of any page.
+pub const PAGE: usize = 332880;
+
+// Puts the page of a snapshot's bytes at the start of a buffer. ROOM, at place 0, where not every page would fit into it.
+pub fn render(input: &[u8], out: &mut [u8]) -> Rendered
+    ensures { λ r. ⌜ Renders (was input) (was out) r (is out) ⌝ }
+{
+    if out.len() < PAGE {
+        return Rendered::Refused(Refusal::Room, 0);
+    }
+    let mut ids = [0u32; 64];
+    let mut distances = [0u32; 4096];
+    let mut address = [0u32; 64];
+    let mut bits = [0u32; 64];
+    let mut routes = [0u32; 64];
+    let mut router = [0u32; 1024];
+    let mut asn = [0u32; 1024];
+    let mut preference = [0u32; 1024];
+    let mut path = [0u32; 1024];
+    let mut origin = [0u32; 1024];
+    let mut mark = [0u32; 1024];
+    let mut med = [0u32; 1024];
+    let mut nid = [0u32; 1024];
+    let mut peer = [0u32; 1024];
+    let mut early = [0u16; 64];
+    let mut late = [0u16; 64];
+    let end = put_page(
+        input,
+        out,
+        &mut ids,
+        &mut distances,
+        &mut address,
+        &mut bits,
+        &mut routes,
+        &mut router,
+        &mut asn,
+        &mut preference,
+        &mut path,
+        &mut origin,
+        &mut mark,
+        &mut med,
+        &mut nid,
+        &mut peer,
+        &mut early,
+        &mut late,
+    );
+    Rendered::Text(end)
 }

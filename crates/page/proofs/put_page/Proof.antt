@@ -8,8 +8,8 @@ use Rattle.snapshot.specs.Tables.{Tables, columns, tables}
 use Rattle.reader.specs.ReadLaws.{slice-bytes}
 use Rattle.text.specs.TextLaws.{puts-as}
 use Rattle.page.specs.RenderLaws.{refused-puts, filled-page, blocks, page-room, tables-text}
-use Rattle.page.proofs.rendered.Statement.{statement}
-use Rattle.page.proofs.rendered.Tie as tie
+use Rattle.page.proofs.put_page.Statement.{statement}
+use Rattle.page.proofs.put_page.Tie as tie
 
 -- ---- what is known once the snapshot is read
 
@@ -193,8 +193,8 @@ same-length-31 c = search needs
 same-length-32 : tie.Need-same-length-32
 same-length-32 c = search needs
 
-pub rendered-spec : {M : Type 1} → statement M
-rendered-spec =
+pub put-page-spec : {M : Type 1} → statement M
+put-page-spec =
     tie.close (tie.spec (λ c κs. search needs) (λ c. search needs) (λ c κs. search needs) put-refused-requires (λ c. search needs) put-tables-requires
     same-length same-length-2 same-length-3 same-length-4 same-length-5 same-length-6 same-length-7 same-length-8 same-length-9 same-length-10 same-length-11 same-length-12 same-length-13 same-length-14 same-length-15 returns
     same-length-16 same-length-17 same-length-18 same-length-19 same-length-20 same-length-21 same-length-22 same-length-23 same-length-24 same-length-25 same-length-26 same-length-27 same-length-28 same-length-29 same-length-30 same-length-31 same-length-32 returns-2)
