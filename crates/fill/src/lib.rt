@@ -113,7 +113,7 @@ fn put_route(
 }
 
 // Whether a whole route record stands at a place.
-fn is_route(input: &[u8], at: usize) -> bool
+pub fn is_route(input: &[u8], at: usize) -> bool
     requires { ⌜ at ≤ length (now input) ⌝ }
     ensures { λ r. ⌜ r ≡ isRoute (was input) at ⌝ }
 {

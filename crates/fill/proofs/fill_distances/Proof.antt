@@ -8,10 +8,10 @@ use Rattle.fill.proofs.fill_distances.Statement.{statement}
 use Rattle.fill.proofs.fill_distances.Tie as tie
 
 abbrev Inv-loop : tie.InvT-loop
-Inv-loop input n distances₀ end k₀ distances k = Entries input n distances₀ k distances
+Inv-loop input n distances₀ stride₀ end k₀ distances k = Entries input n distances₀ k distances
 
 abbrev μ-loop : tie.MeasureT-loop
-μ-loop input n distances₀ end k₀ distances k = n * stride - k
+μ-loop input n distances₀ stride₀ end k₀ distances k = n * stride - k
 
 pub fill-distances-spec : {M : Type 1} → statement M
 fill-distances-spec =
@@ -22,8 +22,10 @@ fill-distances-spec =
     (λ c. search needs)
     (λ c. entries-start)
     (λ c. omega arith)
+    (λ c. search needs)
     (λ c. omega arith)
     (λ c. let l : tie.In-loop Inv-loop μ-loop = search needs in entries-skip (l .before .loop .inv) (omega arith) (c .if1 .taken))
+    (λ c. search needs)
     (λ c κs. (search needs, omega arith, omega arith))
     (λ c. search needs)
     (λ c. let l : tie.In-loop Inv-loop μ-loop = search needs in omega (arith, entries-long (l .before .loop .inv)))
