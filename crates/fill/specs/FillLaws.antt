@@ -257,14 +257,15 @@ module _ (s : Snapshot) (v : Valid s) where
 
 -- ---- the place of a distance
 
-module _ {bs : List ℕ} {n : ℕ} (s : Spans bs n) where
-  pub square-small : n * (n - 1) ≤ mostRouters * (mostRouters - 1)
-  square-small = let few : n ≤ mostRouters = s .few in mul-le-mul few (let l : n - 1 ≤ mostRouters - 1 = omega arith in l)
+-- so many pairs at most
+pub square-small : {n : ℕ} → n ≤ mostRouters → n * (n - 1) ≤ mostRouters * (mostRouters - 1)
+square-small {n} few = mul-le-mul few (let l : n - 1 ≤ mostRouters - 1 = omega arith in l)
 
+module _ {bs : List ℕ} {n : ℕ} (s : Spans bs n) where
   -- it lies within the input, and no number on the way to it is large
   pub place-inside : (from to : ℕ) → from < n → to < n → (from ≡ to → ⊥) → (7 * pairsBefore n from to + (6 * n + 5) + 4 ≤ length bs) × (pairsBefore n from to < mostRouters * mostRouters)
   place-inside from to hf ht e =
       let below : pairsBefore n from to < n * (n - 1) = pair-of n from to (record { from = 0; to = 0 }) hf ht e .0 in
-      let small : n * (n - 1) ≤ 4032 = square-small in
+      let small : n * (n - 1) ≤ 4032 = square-small (s .few) in
       let long : behindDistances n ≤ length bs = s .long in
       (omega arith, omega arith)
