@@ -254,11 +254,12 @@ impl Cursor {
         match body_length(kind) {
             Body::Refused(r) => Finding::Fault(r),
             Body::Bytes(n) => {
-                let whole = check(at + n < input.len(), Refusal::Cut, Finding::Clear);
+                let whole = at + n < input.len();
+                let body = check(whole, Refusal::Cut, Finding::Clear);
                 check(
                     kind == due,
                     Refusal::Place,
-                    check(!astray, Refusal::Place, check(!full, Refusal::Full, whole)),
+                    check(!astray, Refusal::Place, check(!full, Refusal::Full, body)),
                 )
             }
         }

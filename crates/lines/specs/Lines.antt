@@ -6,6 +6,10 @@ use lib.Dec.{eqb}
 use Rattle.model.specs.Decision.{none}
 use Rattle.text.specs.Text.{ascii, decimal}
 
+-- no line has more bytes
+abbrev pub widest : ℕ
+widest = 80
+
 -- line 1: routers, prefixes
 abbrev pub headingLine : ℕ → ℕ → List ℕ
 headingLine routers prefixes = (ascii "forecast " ++ decimal routers) ++ (ascii " " ++ decimal prefixes) ++ ascii "\n"

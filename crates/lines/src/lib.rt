@@ -9,13 +9,10 @@ ghost use lib.ListN.{length};
 ghost use Rattle.model.specs.Decision.{none};
 ghost use Rattle.model.specs.Lent.{was, is, col};
 ghost use Rattle.text.specs.Text.{ascii, decimal, Puts};
-ghost use Rattle.lines.specs.Lines.{headingLine, refusedLine, dotted, state, prefixLine, entry, orEntry, routerLine};
+ghost use Rattle.lines.specs.Lines.{widest, headingLine, refusedLine, dotted, state, prefixLine, entry, orEntry, routerLine};
 
 // No row: what a router holds that has nothing to hold.
 const NONE: u16 = 65535;
-
-// No line is longer.
-pub const LINE: usize = 80;
 
 // Puts a word and a number.
 fn put_number(out: &mut [u8], at: usize, word: &[u8], n: u32) -> usize
@@ -28,8 +25,8 @@ fn put_number(out: &mut [u8], at: usize, word: &[u8], n: u32) -> usize
 
 // Puts line 1.
 pub fn put_heading(out: &mut [u8], at: usize, routers: u32, prefixes: u32) -> usize
-    requires { ⌜ at + 80 ≤ length (now out) ⌝ }
-    ensures { λ end. ⌜ Puts (was out) (is out) at end (headingLine routers prefixes) × (end ≤ at + 80) ⌝ }
+    requires { ⌜ at + widest ≤ length (now out) ⌝ }
+    ensures { λ end. ⌜ Puts (was out) (is out) at end (headingLine routers prefixes) × (end ≤ at + widest) ⌝ }
 {
     let first = put_number(out, at, b"forecast ", routers);
     let second = put_number(out, first, b" ", prefixes);
@@ -38,8 +35,8 @@ pub fn put_heading(out: &mut [u8], at: usize, routers: u32, prefixes: u32) -> us
 
 // Puts the line of a refusal.
 pub fn put_refused(out: &mut [u8], at: usize, number: u32, place: usize) -> usize
-    requires { ⌜ at + 80 ≤ length (now out) ⌝ }
-    ensures { λ end. ⌜ Puts (was out) (is out) at end (refusedLine number place) × (end ≤ at + 80) ⌝ }
+    requires { ⌜ at + widest ≤ length (now out) ⌝ }
+    ensures { λ end. ⌜ Puts (was out) (is out) at end (refusedLine number place) × (end ≤ at + widest) ⌝ }
 {
     let first = put_number(out, at, b"refused ", number);
     let space = put_text(out, first, b" ");
@@ -71,8 +68,8 @@ fn put_state(out: &mut [u8], at: usize, differing: u32) -> usize
 
 // Puts a prefix's line.
 pub fn put_prefix(out: &mut [u8], at: usize, address: u32, bits: u32, differing: u32) -> usize
-    requires { ⌜ at + 80 ≤ length (now out) ⌝ }
-    ensures { λ end. ⌜ Puts (was out) (is out) at end (prefixLine address bits differing) × (end ≤ at + 80) ⌝ }
+    requires { ⌜ at + widest ≤ length (now out) ⌝ }
+    ensures { λ end. ⌜ Puts (was out) (is out) at end (prefixLine address bits differing) × (end ≤ at + widest) ⌝ }
 {
     let word = put_text(out, at, b"prefix ");
     let dots = put_address(out, word, address);
@@ -121,9 +118,9 @@ pub fn put_router(
     early: u16,
     late: u16,
 ) -> usize
-    requires { ⌜ at + 80 ≤ length (now out) ⌝ }
+    requires { ⌜ at + widest ≤ length (now out) ⌝ }
     requires { ⌜ ((early ≡ none) ⊎ (early < length (now router))) × ((late ≡ none) ⊎ (late < length (now router))) ⌝ }
-    ensures { λ end. ⌜ Puts (was out) (is out) at end (routerLine unsettled (col router) r early late) × (end ≤ at + 80) ⌝ }
+    ensures { λ end. ⌜ Puts (was out) (is out) at end (routerLine unsettled (col router) r early late) × (end ≤ at + widest) ⌝ }
 {
     let index = put_number(out, at, b"router ", r);
     let first = put_entry(out, index, router, r, early);

@@ -243,7 +243,7 @@ pub start-first : (routes : List ℕ) → start routes 0 ≡ 0
 unfolding start
 start-first routes = refl
 
-start-up : (routes : List ℕ) (p q : ℕ) → p ≤ q → start routes p ≤ start routes q
+pub start-up : (routes : List ℕ) (p q : ℕ) → p ≤ q → start routes p ≤ start routes q
 unfolding start
 start-up routes p zero l = ap≤ (let e : p ≡ 0 = omega arith in e)
   where

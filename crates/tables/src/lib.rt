@@ -373,10 +373,41 @@ pub fn examine(
 ) -> Verdict
     ensures { λ r. ⌜ Verdicts counts (tables (was ids) (was distances) (was address) (was bits) (was routes) (columns (was router) (was asn) (was preference) (was path) (was origin) (was mark) (was med) (was nid) (was peer))) (numbered r) ⌝ }
 {
-    if lacks_room(ids, distances, address, bits, routes, router, asn, preference, path, origin, mark, med, nid, peer) {
+    if lacks_room(
+        ids,
+        distances,
+        address,
+        bits,
+        routes,
+        router,
+        asn,
+        preference,
+        path,
+        origin,
+        mark,
+        med,
+        nid,
+        peer,
+    ) {
         return Verdict::Refused(refusal::Refusal::Room);
     }
-    if !judge(counts, ids, distances, address, bits, routes, router, asn, preference, path, origin, mark, med, nid, peer) {
+    if !judge(
+        counts,
+        ids,
+        distances,
+        address,
+        bits,
+        routes,
+        router,
+        asn,
+        preference,
+        path,
+        origin,
+        mark,
+        med,
+        nid,
+        peer,
+    ) {
         return Verdict::Refused(refusal::Refusal::Table);
     }
     Verdict::Good

@@ -14,17 +14,14 @@ use Rattle.refusal.specs.Numbers.{numberOf}
 use Rattle.refusal.specs.NumbersLaws.{number-tells, number-range}
 use Rattle.snapshot.specs.declared.Counts.{Counts}
 use Rattle.snapshot.specs.Ranges.{anyOf, none}
-use Rattle.snapshot.specs.RangesLaws.{none-any}
 use Rattle.snapshot.specs.Format.{Snapshot, encode, Valid}
 use Rattle.snapshot.specs.Reading.{reading, accepted}
 use Rattle.snapshot.specs.Tables.{Tables, short, filled, countsOf, Held}
 use Rattle.snapshot.specs.Theorems.{accepts, written-read}
-use Rattle.tables.specs.Judging as judging
 use Rattle.tables.specs.Judging.{snapshotOf}
 use Rattle.tables.specs.ListsLaws.{sets-front}
 use Rattle.tables.specs.HeldLaws.{held-is}
 use Rattle.tables.specs.FilledLaws.{filled-held, filled-room}
-use Rattle.tables.specs.JudgeLaws.{off}
 use Rattle.tables.specs.Theorems.{has-room, room-enough, held-one}
 use Rattle.writer.specs.declared.Write.{Write}
 use Rattle.writer.specs.declared.Write.the-variants.{Written, Refused}
@@ -38,9 +35,6 @@ said-tells (Written n) (Written m) e = ap Written (ap (λ (q : Said). q .value) 
 said-tells (Written n) (Refused r at) e = absurd (let z : 0 ≡ numberOf r = ap (λ (q : Said). q .number) e in let l = number-range r .0 in omega arith)
 said-tells (Refused r at) (Written m) e = absurd (let z : numberOf r ≡ 0 = ap (λ (q : Said). q .number) e in let l = number-range r .0 in omega arith)
 said-tells (Refused r at) (Refused q to) e = ap₂ Refused (number-tells r q (ap (λ (q : Said). q .number) e)) (ap (λ (q : Said). q .value) e)
-
-its-room : (t : Tables) → T (none (short t)) → judging.Room t
-its-room t n = has-room t (off (anyOf (short t)) n)
 
 module _ {counts : Counts} {t : Tables} {before : List ℕ} where
   same : {p q : Said} {x y : List ℕ} → Writes counts t before p x → Writes counts t before q y → (p ≡ q) × (x ≡ y)
@@ -56,13 +50,13 @@ module _ {counts : Counts} {t : Tables} {before : List ℕ} where
   same (full m s v h l) (unheld n f) = absurd (f (record { snapshot = s; valid = v; held = h }))
   same (full n s v h l) (full m u w k j) = (refl, refl)
   same (full n s v h l) (done m u w k j) =
-      absurd (let e = ap (λ (s : Snapshot). length (encode s)) (held-one (its-room t n) v h w k) in omega arith)
+      absurd (let e = ap (λ (s : Snapshot). length (encode s)) (held-one (has-room t n) v h w k) in omega arith)
   same (done n s v k l) (room h) = absurd (T-not (anyOf (short t)) h n)
   same (done m s v h l) (unheld n f) = absurd (f (record { snapshot = s; valid = v; held = h }))
   same (done n s v h l) (full m u w k j) =
-      absurd (let e = ap (λ (s : Snapshot). length (encode s)) (held-one (its-room t n) v h w k) in omega arith)
+      absurd (let e = ap (λ (s : Snapshot). length (encode s)) (held-one (has-room t n) v h w k) in omega arith)
   same (done n s v h l) (done m u w k j) =
-      let e = held-one (its-room t n) v h w k in
+      let e = held-one (has-room t n) v h w k in
       (ap (λ (s : Snapshot). wrote (length (encode s))) e, ap (λ (s : Snapshot). sets before 0 (encode s)) e)
 
   pub writes-one : {a b : Write} {x y : List ℕ} → Writes counts t before (said a) x → Writes counts t before (said b) y → (a ≡ b) × (x ≡ y)
@@ -77,7 +71,7 @@ read-then-written bs s t {before} bytes enough read fits writes =
     let (is, valid) = accepts bs s bytes .0 read in
     let long = ap length is in
     let again : Writes (countsOf s) (filled s t) before (said (Written (length (encode s)))) (sets before 0 (encode s)) =
-    done (room-enough (filled s t) (filled-room s (its-room t enough))) s valid (filled-held valid (its-room t enough)) (omega arith) in
+    done (room-enough (filled s t) (filled-room s (has-room t enough))) s valid (filled-held valid (has-room t enough)) (omega arith) in
     let (e, f) = writes-one writes again in
     (e ∙ ap Written (sym long), f ∙ ap (sets before 0) (sym is))
 
@@ -111,7 +105,7 @@ written-then-read {counts} {t} {n} writes =
       held .0,
       held .1,
       λ u free.
-          let has = its-room u free in
+          let has = has-room u free in
           let again : Held counts (filled s u) s = subst (λ (c : Counts). Held c (filled s u) s) (sym (held .0)) (filled-held valid has) in
-          sym (held-is (filled-room s has) valid again) ∙ held-is (its-room t enough) valid held,
+          sym (held-is (filled-room s has) valid again) ∙ held-is (has-room t enough) valid held,
     )

@@ -3,18 +3,18 @@ use Prim.Native.Nat.{ℕ, suc, _+_, _-_, _*_, _≤_, _<_}
 use native.Mathlib.Nat.{mul-le-mul}
 use native.Mathlib.Omega.{arith}
 use mathlib.Core.Path.{_≡_, refl, sym, ap, _∙_, subst}
-use mathlib.Core.Bool.{Bool, true, false}
 use mathlib.Core.List.{List, [], _∷_, _++_, map, append-assoc}
 use lib.ListN.{length, length-map}
 use lib.Dec.{T}
 use lib.Seq.{sets}
-use Rattle.refusal.specs.declared.Refusal.the-variants.{Room, Table}
+use Rattle.refusal.specs.declared.Refusal.{Refusal}
+use Rattle.refusal.specs.declared.Refusal.the-variants.{Room}
+use Rattle.refusal.specs.NumbersLaws.{number-range}
 use Rattle.model.specs.Rows.{table, column}
 use Rattle.model.specs.LoopLaws.{table-length}
 use Rattle.snapshot.specs.declared.Counts.{Counts}
 use Rattle.snapshot.specs.Limits.{mostRouters}
-use Rattle.snapshot.specs.Ranges.{anyOf, none}
-use Rattle.snapshot.specs.RangesLaws.{none-any}
+use Rattle.snapshot.specs.Ranges.{none}
 use Rattle.snapshot.specs.Records.{countForm, endForm, written}
 use Rattle.snapshot.specs.Format.{Snapshot, pairs, routersBytes, distancesBytes, prefixesBytes, routesIn, records, encode, encodeOpen, Valid}
 use Rattle.snapshot.specs.Tables.{Tables, short, Held, countsOf}
@@ -22,7 +22,9 @@ use Rattle.snapshot.specs.ChecksLaws.{count-range}
 use Rattle.snapshot.specs.PairsLaws.{pairs-length}
 use Rattle.snapshot.specs.WrittenLaws.{encode-size}
 use Rattle.tables.specs.Judging as judging
-use Rattle.tables.specs.Judging.{prefixAt, snapshotOf, cell, InRange, Parts, Holding, Judged}
+use Rattle.tables.specs.Judging.{prefixAt, snapshotOf, cell, InRange, Parts, Holding, numbered, Verdicts}
+use Rattle.tables.specs.declared.Verdict.{Verdict}
+use Rattle.tables.specs.declared.Verdict.the-variants as verdict
 use Rattle.tables.specs.PartsLaws.{parts-valid, parts-held, holding-parts}
 use Rattle.tables.specs.Theorems.{has-room}
 use Rattle.records.specs.Putting.{Space, Puts}
@@ -67,7 +69,7 @@ module _ {counts : Counts} {t : Tables} (has : judging.Room t) (parts : Parts co
       omega arith
 
   -- the bytes of the snapshot, as they are put
-  pub encode-parts : encode s ≡ networkBytes (t .ids) (t .distances) (counts .routers) ++ (prefixesBytes (s .prefixes) ++ written endForm (recordsOf counts ∷ []))
+  encode-parts : encode s ≡ networkBytes (t .ids) (t .distances) (counts .routers) ++ (prefixesBytes (s .prefixes) ++ written endForm (recordsOf counts ∷ []))
   encode-parts =
       let n : ℕ = length (s .ids) in
       let ids : List ℕ = routersBytes 0 (s .ids) in
@@ -77,14 +79,14 @@ module _ {counts : Counts} {t : Tables} (has : judging.Room t) (parts : Parts co
       ∙ ap (λ (k : ℕ). networkBytes (t .ids) (t .distances) (counts .routers) ++ (ps ++ written endForm (k ∷ []))) records-are
 
   -- they are put by these parts
-  pub puts-snapshot : {before a b c : List ℕ} {m k r : ℕ} → Puts (networkBytes (t .ids) (t .distances) (counts .routers)) before 0 a m → Puts (prefixesBytes (s .prefixes)) a m b k
+  puts-snapshot : {before a b c : List ℕ} {m k r : ℕ} → Puts (networkBytes (t .ids) (t .distances) (counts .routers)) before 0 a m → Puts (prefixesBytes (s .prefixes)) a m b k
       → c ≡ sets b k (written endForm (r ∷ [])) → r ≡ recordsOf counts → Puts (encode s) before 0 c (k + 5)
   puts-snapshot {before} {b} {c} {k} p q e f =
       subst (λ (bs : List ℕ). Puts bs before 0 c (k + 5)) (sym encode-parts)
       (puts-append p (puts-append q (record { same = e ∙ ap (λ (n : ℕ). sets b k (written endForm (n ∷ []))) f; place = refl })))
 
   -- their number
-  pub encode-long : length (encode s) ≡ sizeOf counts
+  encode-long : length (encode s) ≡ sizeOf counts
   encode-long =
       let a = n-is in
       let b = distances-many in
@@ -96,29 +98,51 @@ module _ {counts : Counts} {t : Tables} (has : judging.Room t) (parts : Parts co
 -- ---- the cases of writing
 
 module _ (counts : Counts) (t : Tables) (before : List ℕ) where
-  pub writes-room : anyOf (short t) ≡ true → Writes counts t before (refuses Room 0) before
-  writes-room e = room (subst T (sym e) tt)
+  refused-so : {n : ℕ} → Verdicts counts t n → 1 ≤ n → Writes counts t before (record { number = n; value = 0 }) before
+  refused-so (judging.room h) l = room h
+  refused-so (judging.unheld h f) l = unheld h f
+  refused-so (judging.held h g) l = absurd (omega arith)
 
-  module _ (e : anyOf (short t) ≡ false) where
-    pub writes-table : (Holding counts t → ⊥) → Writes counts t before (refuses Table 0) before
-    writes-table f = tables (none-any (short t) e) f
+  -- refused before the output is looked at
+  pub writes-no : {v : Verdict} {r : Refusal} → v ≡ verdict.Refused r → Verdicts counts t (numbered v) → Writes counts t before (refuses r 0) before
+  writes-no {r} e given = refused-so (subst (λ (v : Verdict). Verdicts counts t (numbered v)) e given) (number-range r .0)
 
-    module _ (parts : Parts counts t) where
-      has : judging.Room t
-      has = has-room t e
+  module _ (enough : T (none (short t))) (holding : Holding counts t) where
+    has : judging.Room t
+    has = has-room t enough
 
-      pub writes-full : length before < sizeOf counts → Writes counts t before (refuses Room 0) before
-      writes-full l =
-          let size = encode-long has parts in
-          full (none-any (short t) e) (snapshotOf counts t) (parts-valid has parts) (parts-held has parts) (omega arith)
+    parts : Parts counts t
+    parts = holding-parts has holding
 
-      pub writes-space : sizeOf counts ≤ length before → Space (encode (snapshotOf counts t)) before 0
-      writes-space l = let size = encode-long has parts in record { fits = omega arith }
+    pub writes-full : length before < sizeOf counts → Writes counts t before (refuses Room 0) before
+    writes-full l =
+        let size = encode-long has parts in
+        full enough (snapshotOf counts t) (parts-valid has parts) (parts-held has parts) (omega arith)
 
-      pub writes-done : {after : List ℕ} {n : ℕ} → sizeOf counts ≤ length before → Puts (encode (snapshotOf counts t)) before 0 after n → Writes counts t before (wrote n) after
-      writes-done {after} {n} l puts =
-          let size = encode-long has parts in
-          let place = puts .place in
-          subst (λ (out : List ℕ). Writes counts t before (wrote n) out) (sym (puts .same))
-          (subst (λ (m : ℕ). Writes counts t before (wrote m) (sets before 0 (encode (snapshotOf counts t)))) (omega arith)
-          (done (none-any (short t) e) (snapshotOf counts t) (parts-valid has parts) (parts-held has parts) (omega arith)))
+    pub writes-space : sizeOf counts ≤ length before → Space (networkBytes (t .ids) (t .distances) (counts .routers) ++ (prefixesBytes (table (counts .prefixes) (prefixAt t)) ++ written endForm (recordsOf counts ∷ []))) before 0
+    writes-space l =
+        let size = encode-long has parts in
+        let whole : Space (encode (snapshotOf counts t)) before 0 = record { fits = omega arith } in
+        subst (λ (bs : List ℕ). Space bs before 0) (encode-parts has parts) whole
+
+    pub writes-done : {a b c : List ℕ} {m k r : ℕ} → sizeOf counts ≤ length before → Puts (networkBytes (t .ids) (t .distances) (counts .routers)) before 0 a m
+        → Puts (prefixesBytes (table (counts .prefixes) (prefixAt t))) a m b k → c ≡ sets b k (written endForm (r ∷ [])) → r ≡ recordsOf counts
+        → (k + 5 ≡ sizeOf counts) × Writes counts t before (wrote (k + 5)) c
+    writes-done {c} {k} l p q e f =
+        let size = encode-long has parts in
+        let puts = puts-snapshot has parts p q e f in
+        let place = puts .place in (
+          omega arith,
+          subst (λ (out : List ℕ). Writes counts t before (wrote (k + 5)) out) (sym (puts .same))
+              (subst (λ (m : ℕ). Writes counts t before (wrote m) (sets before 0 (encode (snapshotOf counts t)))) (omega arith)
+              (done enough (snapshotOf counts t) (parts-valid has parts) (parts-held has parts) (omega arith))),
+        )
+
+good-so : {counts : Counts} {t : Tables} {n : ℕ} → Verdicts counts t n → n ≡ 0 → T (none (short t)) × Holding counts t
+good-so (judging.room h) e = absurd (omega arith)
+good-so (judging.unheld h f) e = absurd (omega arith)
+good-so (judging.held h g) e = (h, g)
+
+-- not refused
+pub verdict-good : {counts : Counts} {t : Tables} {v : Verdict} → v ≡ verdict.Good → Verdicts counts t (numbered v) → T (none (short t)) × Holding counts t
+verdict-good e given = good-so given (ap numbered e)

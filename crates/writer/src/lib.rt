@@ -5,13 +5,16 @@ ghost use lib.ListN.{length};
 ghost use Rattle.model.specs.Rows.{table, column};
 ghost use Rattle.model.specs.Lent.{was, is, col};
 ghost use Rattle.snapshot.specs.Limits.{mostRouters, roomDistances, mostPrefixes, mostRoutes};
-ghost use Rattle.snapshot.specs.Format.{routersBytes, prefixesBytes, routesBytes, encode};
-ghost use Rattle.snapshot.specs.Tables.{columns, tables};
-ghost use Rattle.tables.specs.Judging.{RoomRows, RoomPrefixes, Room, prefixTables, start, routesAt, prefixAt, snapshotOf, InRange, Parts};
+ghost use Rattle.snapshot.specs.Format.{routersBytes, prefixesBytes, routesBytes};
+ghost use Rattle.snapshot.specs.Tables.{columns, tables, short};
+ghost use Rattle.snapshot.specs.Ranges.{none};
+ghost use lib.Dec.{T};
+ghost use Rattle.tables.specs.Judging.{RoomRows, RoomPrefixes, prefixTables, start, routesAt, prefixAt, InRange, Holding};
 ghost use Rattle.records.specs.Putting.{Space, Puts};
 ghost use Rattle.writer.specs.Writing.{rowBytes, rowsBytes, networkBytes, prefixFrom, prefixBytes, pairCount, sizeOf, recordsOf, said, Writes};
 use refusal::Refusal;
 use snapshot::Counts;
+use tables::Verdict;
 
 // The answer to a call that writes: the number of bytes, or a refusal with its place.
 pub enum Write {
@@ -252,8 +255,8 @@ fn record_count(counts: Counts) -> u32
     1 + counts.routers + pairs + counts.prefixes + counts.routes
 }
 
-// The whole snapshot, from the start of the output on.
-fn put_snapshot(
+// Writes the snapshot that is held, where the output has room for it.
+fn write_held(
     counts: Counts,
     ids: &[u32],
     distances: &[u32],
@@ -270,10 +273,13 @@ fn put_snapshot(
     nid: &[u32],
     peer: &[u32],
     out: &mut [u8],
-) -> usize
-    requires { ⌜ Room (tables (now ids) (now distances) (now address) (now bits) (now routes) (columns (now router) (now asn) (now preference) (now path) (now origin) (now mark) (now med) (now nid) (now peer))) × Parts counts (tables (now ids) (now distances) (now address) (now bits) (now routes) (columns (now router) (now asn) (now preference) (now path) (now origin) (now mark) (now med) (now nid) (now peer))) × Space (encode (snapshotOf counts (tables (now ids) (now distances) (now address) (now bits) (now routes) (columns (now router) (now asn) (now preference) (now path) (now origin) (now mark) (now med) (now nid) (now peer))))) (now out) 0 ⌝ }
-    ensures { λ r. ⌜ Puts (encode (snapshotOf counts (tables (was ids) (was distances) (was address) (was bits) (was routes) (columns (was router) (was asn) (was preference) (was path) (was origin) (was mark) (was med) (was nid) (was peer))))) (was out) 0 (is out) r ⌝ }
+) -> Write
+    requires { ⌜ T (none (short (tables (now ids) (now distances) (now address) (now bits) (now routes) (columns (now router) (now asn) (now preference) (now path) (now origin) (now mark) (now med) (now nid) (now peer))))) × Holding counts (tables (now ids) (now distances) (now address) (now bits) (now routes) (columns (now router) (now asn) (now preference) (now path) (now origin) (now mark) (now med) (now nid) (now peer))) ⌝ }
+    ensures { λ r. ⌜ Writes counts (tables (was ids) (was distances) (was address) (was bits) (was routes) (columns (was router) (was asn) (was preference) (was path) (was origin) (was mark) (was med) (was nid) (was peer))) (was out) (said r) (is out) ⌝ }
 {
+    if out.len() < size(counts) {
+        return Write::Refused(Refusal::Room, 0);
+    }
     let records = record_count(counts);
     let mut at = put_network(counts.routers as usize, ids, distances, out);
     at = put_prefixes(
@@ -294,7 +300,7 @@ fn put_snapshot(
         at,
     );
     records::put_end(out, at, records);
-    at + 5
+    Write::Written(at + 5)
 }
 
 // Writes the snapshot that counts and tables hold to the start of the output. Refused as ROOM where a table is shorter than its limit,
@@ -319,25 +325,7 @@ pub fn write_snapshot(
 ) -> Write
     ensures { λ r. ⌜ Writes counts (tables (was ids) (was distances) (was address) (was bits) (was routes) (columns (was router) (was asn) (was preference) (was path) (was origin) (was mark) (was med) (was nid) (was peer))) (was out) (said r) (is out) ⌝ }
 {
-    if tables::lacks_room(
-        ids,
-        distances,
-        address,
-        bits,
-        routes,
-        router,
-        asn,
-        preference,
-        path,
-        origin,
-        mark,
-        med,
-        nid,
-        peer,
-    ) {
-        return Write::Refused(Refusal::Room, 0);
-    }
-    if !tables::judge(
+    match tables::examine(
         counts,
         ids,
         distances,
@@ -354,27 +342,24 @@ pub fn write_snapshot(
         nid,
         peer,
     ) {
-        return Write::Refused(Refusal::Table, 0);
+        Verdict::Refused(r) => Write::Refused(r, 0),
+        Verdict::Good => write_held(
+            counts,
+            ids,
+            distances,
+            address,
+            bits,
+            routes,
+            router,
+            asn,
+            preference,
+            path,
+            origin,
+            mark,
+            med,
+            nid,
+            peer,
+            out,
+        ),
     }
-    if out.len() < size(counts) {
-        return Write::Refused(Refusal::Room, 0);
-    }
-    Write::Written(put_snapshot(
-        counts,
-        ids,
-        distances,
-        address,
-        bits,
-        routes,
-        router,
-        asn,
-        preference,
-        path,
-        origin,
-        mark,
-        med,
-        nid,
-        peer,
-        out,
-    ))
 }

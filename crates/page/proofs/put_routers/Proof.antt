@@ -8,14 +8,14 @@ use borrow.Author.Needs.{needs}
 use Rattle.model.specs.Rows.{column}
 use Rattle.model.specs.Decision.{none}
 use Rattle.model.specs.ColumnLaws.{getD-inside}
-use Rattle.lines.specs.Lines.{routerLine}
+use Rattle.lines.specs.Lines.{widest, routerLine}
 use Rattle.text.specs.TextLaws.{puts-as, Lined, lined, lined-next, lined-end, lined-room}
 use Rattle.page.proofs.put_routers.Statement.{statement}
 use Rattle.page.proofs.put_routers.Tie as tie
 
 abbrev Inv-loop : tie.InvT-loop
 Inv-loop out₀ at unsettled router early late end₀ r₀ r-end out end r =
-    Lined (λ r. routerLine unsettled (column router) r (getD early r none) (getD late r none)) 80 out₀ at (length early) r end out
+    Lined (λ r. routerLine unsettled (column router) r (getD early r none) (getD late r none)) widest out₀ at (length early) r end out
 
 abbrev μ-loop : tie.MeasureT-loop
 μ-loop out₀ at unsettled router early late end₀ r₀ r-end out end r = length early - r
