@@ -19,6 +19,7 @@ use Rattle.snapshot.specs.Format.{Prefix, Snapshot, Each, GoodPrefix, Valid, re
 use Rattle.snapshot.specs.Tables.{Columns, Tables, columns, tables, filled, putRoutes, routesOf, countsOf, Held, mesh}
 use Rattle.fill.specs.Fill.{idsIn, entryIn, behindDistances, routesFrom, Spans, Wide}
 use Rattle.fill.specs.FillLaws.{Stands, prefix-stands, behind-distances, spans, fills}
+use Rattle.fill.specs.StoresLaws.{Alike, alike-put, wide-alike}
 use Rattle.tables.specs.Judging.{Room}
 use Rattle.tables.specs.ListsLaws.{map-at}
 use Rattle.tables.specs.HeldLaws.{no-prefix}
@@ -98,7 +99,7 @@ module _ {s : Snapshot} (valid : Valid s) {p : ℕ} (below : p < length (s .pref
 
     long : mostRoutes ≤ length zeros
     unfolding zeros
-    long = rw (length-replicate mostRoutes 0) (omega arith)
+    long = let n : length (replicate {A = ℕ} mostRoutes 0) ≡ mostRoutes = length-replicate {A = ℕ} mostRoutes 0 in omega arith
 
     -- tables into which the whole snapshot could be read
     abbrev before : Tables
@@ -132,13 +133,20 @@ module _ {s : Snapshot} (valid : Valid s) {p : ℕ} (below : p < length (s .pref
     distances-is : distances ≡ after .distances
     distances-is = loaded .distances-are ∙ ap (λ (t : Tables). t .distances) (fills s valid before)
 
+    few : rows ≤ mostInPrefix
+    few =
+        let count = loaded .count in
+        let most = subst (λ (l : List Route). length l ≤ mostInPrefix) (sym routes-are) (routes-few valid p below) in
+        omega arith
+
     front-is : front rows c ≡ columnsOf (routesOf s p)
     front-is =
-        let rs : List Route = askedRoutes bs n p in
-        let few : length rs ≤ mostInPrefix = subst (λ (l : List Route). length l ≤ mostInPrefix) (sym routes-are) (routes-few valid p below) in
-        ap₂ front (loaded .count) (loaded .columns-are) ∙ front-put c₀ rs (wide-less few (room .rows)) ∙ ap columnsOf routes-are
+        let most = few in
+        let count = loaded .count in
+        ap₂ front count (loaded .columns-are) ∙ front-put c₀ (askedRoutes bs n p) (wide-less (omega arith) (room .rows)) ∙ ap columnsOf routes-are
 
-    module _ {of : ℕ → List ℕ → List ℕ → decided.Columns → Type 0} where
+    -- so what is said of the one is said of the other
+    module _ (of : ℕ → List ℕ → List ℕ → decided.Columns → Type 0) where
       to-after : of n ids distances (front rows c) → of n (after .ids) (after .distances) (columnsOf (routesOf s p))
       to-after h =
           subst (of n (after .ids) (after .distances)) front-is
@@ -150,12 +158,12 @@ module _ {s : Snapshot} (valid : Valid s) {p : ℕ} (below : p < length (s .pref
           (subst (λ (x : List ℕ). of n (after .ids) x (front rows c)) (sym distances-is) (subst (of n (after .ids) (after .distances)) (sym front-is) h))
 
     placed : Placed n ids distances (front rows c)
-    placed = from-after {of = Placed} (lent-placed enough-after valid held p below)
+    placed = from-after Placed (lent-placed enough-after valid held p below)
 
     decides : {d : Differing} {early late : List ℕ} → Decided (lentMesh n ids distances (front rows c)) d early late
         → Between (mesh s p) early late × (d .number ≡ length (differing (mesh s p) early late))
     decides {d} {early} {late} h =
-        let k : Decided (lent enough-after valid held p below) d early late = to-after {of = λ m x y t. Decided (lentMesh m x y t) d early late} h in (
+        let k : Decided (lent enough-after valid held p below) d early late = to-after (λ m x y t. Decided (lentMesh m x y t) d early late) h in (
           subst₂ (λ (x y : List ℕ). Between (mesh s p) x y) (sym (k .early-rows)) (sym (k .late-rows)) (lent-between enough-after valid held p below),
           ap (λ (x : Differing). x .number) (k .differs) ∙ ap₂ (λ (x y : List ℕ). length (differing (mesh s p) x y)) (sym (k .early-rows)) (sym (k .late-rows)),
         )
@@ -190,6 +198,12 @@ module _ {bs : List ℕ} {n p : ℕ} (asked : Asked bs n p) where
       (loaded : Loaded bs n p ids₀ distances₀ c₀ rows ids distances c) where
     there : Loaded (encode (asked .snapshot)) (length (asked .snapshot .ids)) p ids₀ distances₀ c₀ rows ids distances c
     there = subst₂ (λ (l : List ℕ) (m : ℕ). Loaded l m p ids₀ distances₀ c₀ rows ids distances c) (asked .written) (asked .routers) loaded
+
+    -- so many rows as are loaded fit
+    pub loaded-long : Wide rows c
+    loaded-long =
+        wide-less (few (asked .valid) (asked .below) room there)
+        (wide-alike (room .rows) (subst (λ (d : Columns). Alike d c₀) (sym (loaded .columns-are)) (alike-put c₀ 0 (askedRoutes bs n p))))
 
     pub loaded-placed : Placed n ids distances (front rows c)
     loaded-placed = subst (λ (m : ℕ). Placed m ids distances (front rows c)) (sym (asked .routers)) (placed (asked .valid) (asked .below) room there)

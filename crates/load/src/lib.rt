@@ -62,12 +62,12 @@ fn load(
     ensures { λ rows. ⌜ Loaded (was input) n prefix (was ids) (was distances) (columns (was router) (was asn) (was preference) (was path) (was origin) (was mark) (was med) (was nid) (was peer))
         rows (is ids) (is distances) (columns (is router) (is asn) (is preference) (is path) (is origin) (is mark) (is med) (is nid) (is peer)) ⌝ }
 {
-    let at = place_of(input, fill::behind_distances(n), prefix);
+    let routes = place_of(input, fill::behind_distances(n), prefix) + 6;
     fill::fill_ids(input, n, ids);
     fill::fill_distances(input, n, distances);
     fill::fill_routes(
         input,
-        at + 6,
+        routes,
         0,
         rows::MOST_ROWS,
         router,
@@ -149,12 +149,7 @@ fn no_column() -> [u32; rows::MOST_ROWS] {
 
 // The early and the late row of each router for the prefix of a number, and the routers that differ. There is one router for each
 // entry of `early`.
-pub fn forecast(
-    input: &[u8],
-    prefix: usize,
-    early: &mut [u16],
-    late: &mut [u16],
-) -> Differing
+pub fn forecast(input: &[u8], prefix: usize, early: &mut [u16], late: &mut [u16]) -> Differing
     requires { ⌜ Asked (now input) (length (now early)) prefix × (length (now late) ≡ length (now early)) ⌝ }
     ensures { λ d. ⌜ Forecast (was input) prefix d (is early) (is late) ⌝ }
 {
