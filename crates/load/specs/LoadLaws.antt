@@ -185,6 +185,9 @@ loaded bs n p {first} {at} {rows} {c₀ = c₀} e f i d r k =
       columns-are = k ∙ ap (putRoutes c₀ 0) routes;
     }
 
+pub asked-again : {bs : List ℕ} {n m p : ℕ} → n ≡ m → Asked bs n p → Asked bs m p
+asked-again {bs} {p = p} e a = subst (λ (k : ℕ). Asked bs k p) e a
+
 module _ {bs : List ℕ} {n p : ℕ} (asked : Asked bs n p) where
   pub asked-spans : Spans bs n
   asked-spans = subst₂ Spans (sym (asked .written)) (sym (asked .routers)) (spans (asked .snapshot) (asked .valid))
