@@ -2,12 +2,10 @@
 ghost use mathlib.Core.Path.{_≡_};
 ghost use mathlib.Core.List.{_++_};
 ghost use Prim.Native.Nat.{_+_, _*_, _≤_};
-ghost use lib.ListN.{length, getD};
+ghost use lib.ListN.{length};
 ghost use lib.Seq.{sets};
 ghost use Rattle.model.specs.Rows.{span};
-ghost use Rattle.model.specs.Decision.{none};
 ghost use Rattle.model.specs.Lent.{was, is};
-ghost use Rattle.snapshot.specs.Limits.{mostRouters};
 ghost use Rattle.wire.specs.Numbers.{bytesOf};
 ghost use Rattle.text.specs.Text.{each, Puts};
 ghost use Rattle.load.specs.Load.{Asked};
