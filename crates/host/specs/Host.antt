@@ -24,9 +24,13 @@ areaBytes = 256
 abbrev pub refusalCode : Refusal → ℕ
 refusalCode r = 100 + numberOf r
 
--- for each router r below n, the early row in bytes 4r and 4r+1, the late row in the next two, most significant byte first
+-- the early row of a router in two bytes, the late row in the next two, most significant byte first
+abbrev pub routerBytes : List ℕ → List ℕ → ℕ → List ℕ
+routerBytes early late r = bytesOf 2 (getD early r none) ++ bytesOf 2 (getD late r none)
+
+-- those of each router r below n, in bytes 4r to 4r+3
 abbrev pub rowsBytes : Mesh → List ℕ → List ℕ → List ℕ
-rowsBytes M early late = each (λ r. bytesOf 2 (getD early r none) ++ bytesOf 2 (getD late r none)) (span 0 (M .routers))
+rowsBytes M early late = each (routerBytes early late) (span 0 (M .routers))
 
 -- the number returned for these bytes, prefix number and area, and what the area holds afterwards; checked in this order
 pub data Answers (bs : List ℕ) (p : ℕ) (area : List ℕ) : ℕ → List ℕ → Type 0 where

@@ -52,11 +52,11 @@ wide t e =
     }
 
 -- an answer tells what reading gave
-told-refused : (a : Answer) {r : Refusal} {at : ℕ} → read.Refused r at ≡ told a → a ≡ refused r at
+pub told-refused : (a : Answer) {r : Refusal} {at : ℕ} → read.Refused r at ≡ told a → a ≡ refused r at
 told-refused (accepted s) e = absurd (let z : _≡_ {A = ℕ} 0 1 = cc in omega arith)
 told-refused (refused q place) e = cc
 
-told-accepted : (a : Answer) {c : Counts} → read.Accepted c ≡ told a → (s : Snapshot) × (a ≡ accepted s) × (c ≡ countsOf s)
+pub told-accepted : (a : Answer) {c : Counts} → read.Accepted c ≡ told a → (s : Snapshot) × (a ≡ accepted s) × (c ≡ countsOf s)
 told-accepted (accepted s) e = (s, refl, cc)
 told-accepted (refused q place) e = absurd (let z : _≡_ {A = ℕ} 0 1 = cc in omega arith)
 
