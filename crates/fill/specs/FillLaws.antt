@@ -94,7 +94,8 @@ module _ (s : Snapshot) (v : Valid s) where
   square : length (s .distances) ≡ length (pairs n)
   square = v .square ∙ sym (pairs-length n)
 
-  behind-distances : drop (behindDistances n) (encode s) ≡ third
+  -- the prefixes stand behind the distances
+  pub behind-distances : drop (behindDistances n) (encode s) ≡ third
   behind-distances =
       sym (drop-drop (7 * (n * (n - 1))) (6 * n + 2) (encode s)) ∙ ap (drop (7 * (n * (n - 1)))) behind-routers
       ∙ drop-at (distancesBytes (pairs n) (s .distances)) third (7 * (n * (n - 1)))
@@ -199,30 +200,43 @@ no-route : (ps : List Prefix) (k : ℕ) → eqb (kind (prefixesBytes ps ++ writt
 no-route [] k = refl
 no-route (p ∷ ps) k = refl
 
-prefixes-from : (n k : ℕ) (bs : List ℕ) (before ps : List Prefix) (at row : ℕ) → drop at bs ≡ prefixesBytes ps ++ written endForm (k ∷ [])
-    → Each (GoodPrefix n) before ps → row + routesIn ps ≤ mostRoutes → prefixesFrom (length ps) bs at row ≡ ps
-unfolding prefixesFrom
-prefixes-from n k bs before [] at row e good l = refl
-prefixes-from n k bs before (p ∷ ps) at row e good l =
+-- a prefix stands at a place, with its routes, and something behind them
+pub record Stands (bs : List ℕ) (at : ℕ) (p : Prefix) (after : List ℕ) : Type 0 where
+  pub whole : at + 6 ≤ length bs
+  pub fields : valuesAt prefixForm bs at ≡ p .address ∷ p .bits ∷ []
+  pub routes : (room : ℕ) → length (p .routes) ≤ room → routesFrom room bs (at + 6) ≡ p .routes
+  pub behind : drop (at + 6 + 24 * length (p .routes)) bs ≡ after
+
+pub prefix-stands : (n k : ℕ) (bs : List ℕ) (before : List Prefix) (p : Prefix) (ps : List Prefix) (at : ℕ)
+    → drop at bs ≡ prefixesBytes (p ∷ ps) ++ written endForm (k ∷ []) → GoodPrefix n before p → Stands bs at p (prefixesBytes ps ++ written endForm (k ∷ []))
+prefix-stands n k bs before p ps at e good =
     let vs : List ℕ = p .address ∷ p .bits ∷ [] in
     let end : List ℕ = written endForm (k ∷ []) in
     let after : List ℕ = prefixesBytes ps ++ end in
     let rest : List ℕ = routesBytes (p .routes) ++ after in
     let here : drop at bs ≡ written prefixForm vs ++ rest =
     e ∙ ap (λ (l : List ℕ). written prefixForm vs ++ l) (append-assoc (routesBytes (p .routes)) (prefixesBytes ps) end) in
-    let short : p .bits ≤ mostBits = ltb-false mostBits (p .bits) (none-at (prefixTests (p .address) (p .bits)) (good .0 .obeys .0) 0) in
-    let fit : Fits (prefixForm .widths) vs = (good .0 .fits, (omega arith, tt)) in
-    let whole : at + 6 ≤ length bs = reaches bs at (written prefixForm vs) rest 5 here refl in
-    let behind : drop (at + 6) bs ≡ rest = drop-more bs at (written prefixForm vs) rest 6 here refl in
-    let routes : routesFrom (mostRoutes - row) bs (at + 6) ≡ p .routes =
-    routes-from n bs after (no-route ps k) [] (p .routes) (at + 6) (mostRoutes - row) behind (good .0 .routes) (omega arith) in
-    let next : drop (at + 6 + 24 * length (p .routes)) bs ≡ after = drop-more bs (at + 6) (routesBytes (p .routes)) after (24 * length (p .routes)) behind (routes-size (p .routes)) in
-    let is : valuesAt prefixForm bs at ≡ vs = sym (values-at prefixForm bs at) ∙ ap (values prefixForm) here ∙ values-written prefixForm vs rest fit in
+    let short : p .bits ≤ mostBits = ltb-false mostBits (p .bits) (none-at (prefixTests (p .address) (p .bits)) (good .obeys .0) 0) in
+    let fit : Fits (prefixForm .widths) vs = (good .fits, (omega arith, tt)) in
+    let next : drop (at + 6) bs ≡ rest = drop-more bs at (written prefixForm vs) rest 6 here refl in
+    record {
+      whole = reaches bs at (written prefixForm vs) rest 5 here refl;
+      fields = sym (values-at prefixForm bs at) ∙ ap (values prefixForm) here ∙ values-written prefixForm vs rest fit;
+      routes = λ room l. routes-from n bs after (no-route ps k) [] (p .routes) (at + 6) room next (good .routes) l;
+      behind = drop-more bs (at + 6) (routesBytes (p .routes)) after (24 * length (p .routes)) next (routes-size (p .routes));
+    }
+
+prefixes-from : (n k : ℕ) (bs : List ℕ) (before ps : List Prefix) (at row : ℕ) → drop at bs ≡ prefixesBytes ps ++ written endForm (k ∷ [])
+    → Each (GoodPrefix n) before ps → row + routesIn ps ≤ mostRoutes → prefixesFrom (length ps) bs at row ≡ ps
+unfolding prefixesFrom
+prefixes-from n k bs before [] at row e good l = refl
+prefixes-from n k bs before (p ∷ ps) at row e good l =
+    let here = prefix-stands n k bs before p ps at e (good .0) in
     ap (λ (b : Bool). cond b (prefixWith bs at (routesFrom (mostRoutes - row) bs (at + 6)) ∷ prefixesFrom (length ps) bs (at + 6 + 24 * length (routesFrom (mostRoutes - row) bs (at + 6))) (row + length (routesFrom (mostRoutes - row) bs (at + 6)))) [])
-    (le-leb (at + 6) (length bs) whole)
-    ∙ ap (λ (rs : List Route). prefixWith bs at rs ∷ prefixesFrom (length ps) bs (at + 6 + 24 * length rs) (row + length rs)) routes
-    ∙ ap₂ {C = List Prefix} _∷_ (ap (λ (v : List ℕ). record { address = getD v 0 0; bits = getD v 1 0; routes = p .routes }) is)
-    (prefixes-from n k bs (before ++ (p ∷ [])) ps (at + 6 + 24 * length (p .routes)) (row + length (p .routes)) next (good .1) (omega arith))
+    (le-leb (at + 6) (length bs) (here .whole))
+    ∙ ap (λ (rs : List Route). prefixWith bs at rs ∷ prefixesFrom (length ps) bs (at + 6 + 24 * length rs) (row + length rs)) (here .routes (mostRoutes - row) (omega arith))
+    ∙ ap₂ {C = List Prefix} _∷_ (ap (λ (v : List ℕ). record { address = getD v 0 0; bits = getD v 1 0; routes = p .routes }) (here .fields))
+    (prefixes-from n k bs (before ++ (p ∷ [])) ps (at + 6 + 24 * length (p .routes)) (row + length (p .routes)) (here .behind) (good .1) (omega arith))
 
 -- ---- the whole
 
@@ -242,14 +256,15 @@ module _ (s : Snapshot) (v : Valid s) where
 
 -- ---- the place of a distance
 
-module _ {bs : List ℕ} {n : ℕ} (s : Spans bs n) where
-  pub square-small : n * (n - 1) ≤ mostRouters * (mostRouters - 1)
-  square-small = let few : n ≤ mostRouters = s .few in mul-le-mul few (let l : n - 1 ≤ mostRouters - 1 = omega arith in l)
+-- so many pairs at most
+pub square-small : {n : ℕ} → n ≤ mostRouters → n * (n - 1) ≤ mostRouters * (mostRouters - 1)
+square-small {n} few = mul-le-mul few (let l : n - 1 ≤ mostRouters - 1 = omega arith in l)
 
+module _ {bs : List ℕ} {n : ℕ} (s : Spans bs n) where
   -- it lies within the input, and no number on the way to it is large
   pub place-inside : (from to : ℕ) → from < n → to < n → (from ≡ to → ⊥) → (7 * pairsBefore n from to + (6 * n + 5) + 4 ≤ length bs) × (pairsBefore n from to < mostRouters * mostRouters)
   place-inside from to hf ht e =
       let below : pairsBefore n from to < n * (n - 1) = pair-of n from to (record { from = 0; to = 0 }) hf ht e .0 in
-      let small : n * (n - 1) ≤ 4032 = square-small in
+      let small : n * (n - 1) ≤ 4032 = square-small (s .few) in
       let long : behindDistances n ≤ length bs = s .long in
       (omega arith, omega arith)

@@ -369,10 +369,11 @@ module _ {bs : List ℕ} {m at₀ : ℕ} {t₀ : Lists} where
 
 -- ---- the whole
 
-pub tables-filled : (bs : List ℕ) (n m : ℕ) (t : Tables) {ids ds a b c : List ℕ} {rows : Columns}
-    → ids ≡ sets (t .ids) 0 (idsIn bs n) → ds ≡ table (length (t .distances)) (entryIn bs n (t .distances))
-    → lists a b c rows ≡ putPrefixes (lists (t .address) (t .bits) (t .routes) (t .rows)) (prefixesFrom m bs (behindDistances n) 0)
+pub tables-filled : (bs : List ℕ) (n m : ℕ) (t : Tables) {at : ℕ} {ids ds a b c : List ℕ} {rows : Columns}
+    → at ≡ behindDistances n → ids ≡ sets (t .ids) 0 (idsIn bs n) → ds ≡ table (length (t .distances)) (entryIn bs n (t .distances))
+    → lists a b c rows ≡ putPrefixes (lists (t .address) (t .bits) (t .routes) (t .rows)) (prefixesFrom m bs at 0)
     → tables ids ds a b c rows ≡ filledFrom bs n m t
-tables-filled bs n m t {a = a} {b = b} {c = c} {rows = rows} e f g =
+tables-filled bs n m t {a = a} {b = b} {c = c} {rows = rows} place e f g =
     ap₂ (λ (x y : List ℕ). tables x y a b c rows) e f
-    ∙ ap (λ (l : Lists). tables (sets (t .ids) 0 (idsIn bs n)) (table (length (t .distances)) (entryIn bs n (t .distances))) (l .address) (l .bits) (l .routes) (l .rows)) g
+    ∙ ap (λ (l : Lists). tables (sets (t .ids) 0 (idsIn bs n)) (table (length (t .distances)) (entryIn bs n (t .distances))) (l .address) (l .bits) (l .routes) (l .rows))
+    (g ∙ ap (λ (k : ℕ). putPrefixes (lists (t .address) (t .bits) (t .routes) (t .rows)) (prefixesFrom m bs k 0)) place)

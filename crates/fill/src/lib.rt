@@ -15,6 +15,7 @@ ghost use Rattle.fill.specs.Fill.{
   idsIn,
   distanceIn,
   entryIn,
+  behindDistances,
   Spans,
   isRoute,
   routesFrom,
@@ -39,6 +40,14 @@ pub fn fill_ids(input: &[u8], n: usize, ids: &mut [u32])
         ids[i] = wire::get32(input, 6 * i + 4);
         i += 1;
     }
+}
+
+// Where the prefixes of n routers begin.
+pub fn behind_distances(n: usize) -> usize
+    requires { ⌜ (1 ≤ n) × (n ≤ mostRouters) ⌝ }
+    ensures { λ r. ⌜ r ≡ behindDistances n ⌝ }
+{
+    6 * n + 2 + 7 * (n * (n - 1))
 }
 
 // How many pairs of a router come before the one with `to`.
@@ -115,7 +124,7 @@ fn put_route(
 }
 
 // Whether a whole route record stands at a place.
-fn is_route(input: &[u8], at: usize) -> bool
+pub fn is_route(input: &[u8], at: usize) -> bool
     requires { ⌜ at ≤ length (now input) ⌝ }
     ensures { λ r. ⌜ r ≡ isRoute (was input) at ⌝ }
 {
@@ -270,7 +279,7 @@ pub fn fill_tables(
         ≡ filledFrom (was input) n prefixes (tables (was ids) (was distances) (was address) (was bits) (was routes)
         (columns (was router) (was asn) (was preference) (was path) (was origin) (was mark) (was med) (was nid) (was peer))) ⌝ }
 {
-    let at = 6 * n + 2 + 7 * (n * (n - 1));
+    let at = behind_distances(n);
     fill_ids(input, n, ids);
     fill_distances(input, n, distances);
     fill_prefixes(

@@ -186,6 +186,37 @@ module _ {counts : Counts} {t : Tables} {s : Snapshot} (enough : Room t) (valid 
       let known = sound-alike lent (mesh s p) lent-alike (sound valid p below) in
       between-alike lent (mesh s p) lent-alike known (early lent) (late lent) (forecast lent known)
 
+  -- and what it needs to know of that
+  pub lent-placed : Placed (counts .routers) (t .ids) (t .distances) (columnsOf (routesOf s p))
+  lent-placed = record {
+    fits = record {
+      few = few;
+      rows = omega (arith, one (λ r. r .router), routes-few valid p below);
+      asn = alike (λ r. r .asn);
+      preference = alike (λ r. r .preference);
+      path = alike (λ r. r .path);
+      origin = alike (λ r. r .origin);
+      med = alike (λ r. r .med);
+      nid = alike (λ r. r .nid);
+      peer = alike (λ r. r .peer);
+      owned = λ q l. omega (arith, n, sound valid p below .owned q (omega (arith, one (λ r. r .router))));
+    };
+    ids-long = omega (arith, few, enough .ids);
+    distances-long = enough .distances;
+  }
+    where
+      n : counts .routers ≡ length (s .ids)
+      n = ap (λ (c : Counts). c .routers) (held .0)
+
+      few : counts .routers ≤ mostRouters
+      few = omega (arith, n, routers-few valid)
+
+      one : (f : Route → ℕ) → length (map f (routesOf s p)) ≡ length (routesOf s p)
+      one f = length-map (routesOf s p) f
+
+      alike : (f : Route → ℕ) → length (map f (routesOf s p)) ≡ length (map (λ r. r .router) (routesOf s p))
+      alike f = one f ∙ sym (one (λ r. r .router))
+
 -- ---- the routers that differ
 
 -- what the code counts of the rows of a mesh
@@ -239,41 +270,17 @@ module _ (counts : Counts) (t : Tables) (p : ℕ) (roomy : Room t) (holding : Ho
   abbrev s : Snapshot
   s = holding .snapshot
 
-  n-is : counts .routers ≡ length (s .ids)
+  pub n-is : counts .routers ≡ length (s .ids)
   n-is = ap (λ (c : Counts). c .routers) (holding .held .0)
 
-  there : p < length (s .prefixes)
+  pub there : p < length (s .prefixes)
   there = omega (arith, ap (λ (c : Counts). c .prefixes) (holding .held .0))
 
   few : counts .routers ≤ mostRouters
   few = omega (arith, n-is, routers-few (holding .valid))
 
-  same-parts : parts (t .routes) p (whole t) ≡ columnsOf (routesOf s p)
+  pub same-parts : parts (t .routes) p (whole t) ≡ columnsOf (routesOf s p)
   same-parts = parts-are roomy (holding .valid) (holding .held) p there
-
-  placed : Placed (counts .routers) (t .ids) (t .distances) (columnsOf (routesOf s p))
-  placed = record {
-    fits = record {
-      few = few;
-      rows = omega (arith, one (λ r. r .router), routes-few (holding .valid) p there);
-      asn = alike (λ r. r .asn);
-      preference = alike (λ r. r .preference);
-      path = alike (λ r. r .path);
-      origin = alike (λ r. r .origin);
-      med = alike (λ r. r .med);
-      nid = alike (λ r. r .nid);
-      peer = alike (λ r. r .peer);
-      owned = λ q l. omega (arith, n-is, sound (holding .valid) p there .owned q (omega (arith, one (λ r. r .router))));
-    };
-    ids-long = omega (arith, few, roomy .ids);
-    distances-long = roomy .distances;
-  }
-    where
-      one : (f : Route → ℕ) → length (map f (routesOf s p)) ≡ length (routesOf s p)
-      one f = length-map (routesOf s p) f
-
-      alike : (f : Route → ℕ) → length (map f (routesOf s p)) ≡ length (map (λ r. r .router) (routesOf s p))
-      alike f = one f ∙ sym (one (λ r. r .router))
 
   -- where the code finds the prefix's rows
   pub inside : p < length (t .routes)
@@ -282,7 +289,7 @@ module _ (counts : Counts) (t : Tables) (p : ℕ) (roomy : Room t) (holding : Ho
   pub fits-in : start (t .routes) p + column (t .routes) p ≤ mostRoutes
   fits-in = omega (arith, held-count roomy (holding .valid) (holding .held) p below, held-fits roomy (holding .valid) (holding .held) p below)
 
-  pair : (early (lent roomy (holding .valid) (holding .held) p there) ≡ early (mesh s p)) × (late (lent roomy (holding .valid) (holding .held) p there) ≡ late (mesh s p))
+  pub pair : (early (lent roomy (holding .valid) (holding .held) p there) ≡ early (mesh s p)) × (late (lent roomy (holding .valid) (holding .held) p there) ≡ late (mesh s p))
   pair =
       let M = mesh s p in
       let L = lent roomy (holding .valid) (holding .held) p there in
@@ -308,7 +315,7 @@ module _ (counts : Counts) (t : Tables) (p : ℕ) (roomy : Room t) (holding : Ho
       med = roomy .prefixes .rows .med;
       nid = roomy .prefixes .rows .nid;
       peer = roomy .prefixes .rows .peer;
-      placed = subst (Placed (counts .routers) (t .ids) (t .distances)) (sym cut-is) placed;
+      placed = subst (Placed (counts .routers) (t .ids) (t .distances)) (sym cut-is) (lent-placed roomy (holding .valid) (holding .held) p there);
       earlies = omega (arith, few);
       lates = omega (arith, few);
     }
@@ -334,10 +341,3 @@ module _ (counts : Counts) (t : Tables) (p : ℕ) (roomy : Room t) (holding : Ho
           where
             counted : List ℕ → Differing
             counted rs = record { word = word rs; number = length rs }
-
-    -- and its rows are those of that prefix of the snapshot
-    pub same-early : early (lentMesh (counts .routers) (t .ids) (t .distances) (cut first (end - first) (whole t))) ≡ early (mesh s p)
-    same-early = ap (λ (c : Columns). early (lentMesh (counts .routers) (t .ids) (t .distances) c)) cut-is ∙ pair .0
-
-    pub same-late : late (lentMesh (counts .routers) (t .ids) (t .distances) (cut first (end - first) (whole t))) ≡ late (mesh s p)
-    same-late = ap (λ (c : Columns). late (lentMesh (counts .routers) (t .ids) (t .distances) c)) cut-is ∙ pair .1

@@ -18,7 +18,7 @@ use Rattle.snapshot.specs.RangesLaws.{none-any, none-at}
 use Rattle.snapshot.specs.Format.{Snapshot}
 use Rattle.snapshot.specs.Reading.{Answer, accepted, refused, reading}
 use Rattle.snapshot.specs.Theorems.{accepts}
-use Rattle.snapshot.specs.Tables.{Tables, short, countsOf}
+use Rattle.snapshot.specs.Tables.{Tables, short, filled, countsOf}
 use Rattle.scan.specs.declared.Read.the-variants as read
 use Rattle.scan.specs.Scan.{told}
 use Rattle.fill.specs.Fill.{Spans, WideTables, filledFrom}
@@ -52,11 +52,11 @@ wide t e =
     }
 
 -- an answer tells what reading gave
-told-refused : (a : Answer) {r : Refusal} {at : ℕ} → read.Refused r at ≡ told a → a ≡ refused r at
+pub told-refused : (a : Answer) {r : Refusal} {at : ℕ} → read.Refused r at ≡ told a → a ≡ refused r at
 told-refused (accepted s) e = absurd (let z : _≡_ {A = ℕ} 0 1 = cc in omega arith)
 told-refused (refused q place) e = cc
 
-told-accepted : (a : Answer) {c : Counts} → read.Accepted c ≡ told a → (s : Snapshot) × (a ≡ accepted s) × (c ≡ countsOf s)
+pub told-accepted : (a : Answer) {c : Counts} → read.Accepted c ≡ told a → (s : Snapshot) × (a ≡ accepted s) × (c ≡ countsOf s)
 told-accepted (accepted s) e = (s, refl, cc)
 told-accepted (refused q place) e = absurd (let z : _≡_ {A = ℕ} 0 1 = cc in omega arith)
 
@@ -101,3 +101,15 @@ spanned bs {c} bytes e =
 pub slice-bytes : (bs : List ℕ) → ((k : ℕ) → getD bs k 0 < 256) → T (areBytes bs)
 slice-bytes [] h = tt
 slice-bytes (b ∷ bs) h = yes-and (ltb b 256) (areBytes bs) (lt→ltb b 256 (h 0)) (slice-bytes bs (λ k. h (suc k)))
+
+-- ---- what an answer tells of the bytes, where each table has room
+
+module _ (bs : List ℕ) (t : Tables) (room : anyOf (short t) ≡ false) where
+  pub was-refused : {r : Refusal} {at : ℕ} → read.Refused r at ≡ readAnswer bs t → reading bs ≡ refused r at
+  was-refused e = told-refused (reading bs) (e ∙ answer-is bs t room)
+
+  pub was-accepted : {c : Counts} → read.Accepted c ≡ readAnswer bs t → (s : Snapshot) × (reading bs ≡ accepted s) × (c ≡ countsOf s)
+  was-accepted e = told-accepted (reading bs) (e ∙ answer-is bs t room)
+
+  pub tables-left : {s : Snapshot} → reading bs ≡ accepted s → readTables bs t ≡ filled s t
+  tables-left is = tables-are bs t room ∙ ap (λ (a : Answer). left a t) is

@@ -4,12 +4,12 @@
 ghost use mathlib.Core.Path.{_≡_};
 ghost use mathlib.Core.Bool.{false, cond, _&&_};
 ghost use Prim.Native.Nat.{ℕ, _≤_, _<_, min};
-ghost use lib.ListN.{length};
+ghost use lib.ListN.{length, replicate};
 ghost use lib.Dec.{leb};
 ghost use Rattle.model.specs.Rows.{keep, table, column};
 ghost use Rattle.model.specs.Contest.{refine, repeat};
 ghost use Rattle.model.specs.Lent.{was, is, col, on, rowsOf};
-ghost use Rattle.model.specs.Columns.{mostRouters};
+ghost use Rattle.model.specs.Columns.{mostRouters, pastKeys};
 ghost use Rattle.model.specs.Arrangement.{listed, nextBy, startBy, settledBy, Ready};
 
 // Whether the contender p stands at or before the place that its router has.
@@ -55,12 +55,19 @@ fn store(next: &[u32], ends: &[u32], state: &mut [u32]) -> bool
     moved
 }
 
+// A number for each router that no place is above.
+pub fn unplaced() -> [u32; rows::MOST_ROUTERS]
+    ensures { λ x. ⌜ x ≡ replicate mostRouters pastKeys ⌝ }
+{
+    [rows::PAST_KEYS; rows::MOST_ROUTERS]
+}
+
 // Gives each router the first place of its free rows, or its end; whether any router's place is another than before.
 fn advance(router: &[u32], place: &[u32], free: &[bool], ends: &[u32], state: &mut [u32]) -> bool
     requires { ⌜ (length (now router) ≡ length (now free)) × (length (now place) ≡ length (now free)) × (length (now state) ≡ length (now ends)) × (length (now ends) ≤ mostRouters) × ((q : ℕ) → q < length (now free) → column (now router) q < length (now ends)) ⌝ }
     ensures { λ moved. ⌜ (is state ≡ table (length (was ends)) (nextBy (was router) (was place) (was free) (was ends))) × (moved ≡ false → is state ≡ was state) ⌝ }
 {
-    let mut next = rows::past();
+    let mut next = unplaced();
     group::lower(router, place, free, &mut next);
     store(&next, ends, state)
 }

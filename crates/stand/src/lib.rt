@@ -95,7 +95,7 @@ fn rest(
     requires { ⌜ length (now own) ≡ length (now ends) ⌝ }
     ensures { λ _. ⌜ is own ≡ table (length (was ends)) (standsAt (was router) (was place) (was contends) (settledBy late (was router) (was place) (was group) (was med) (was contends) (was ends))) ⌝ }
 {
-    let mut state = rows::past();
+    let mut state = settle::unplaced();
     let routers = ends.len();
     rest_in(
         late,
@@ -159,7 +159,7 @@ pub fn own_rows(
     let mut contends = rows::unmarked();
     let mut place = rows::past();
     let mut group = rows::past();
-    let mut ends = rows::past();
+    let mut ends = settle::unplaced();
     let rows = router.len();
     let routers = early.len();
     own_rows_in(

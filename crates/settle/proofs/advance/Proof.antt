@@ -10,7 +10,7 @@ use borrow.Author.Needs.{needs}
 use Rattle.model.specs.Rows.{keep, column}
 use Rattle.model.specs.Contest.{leastOr}
 use Rattle.model.specs.Lent.{rowsOf}
-use Rattle.model.specs.Columns.{mostRows, pastKeys}
+use Rattle.model.specs.Columns.{mostRouters, pastKeys}
 use Rattle.model.specs.RoundLaws.{advanced}
 use Rattle.settle.proofs.advance.Statement.{statement}
 use Rattle.settle.proofs.advance.Tie as tie
@@ -24,7 +24,7 @@ returns : tie.Need-returns
 returns c =
     let start : tie.Start = search needs in
     let known : tie.After-shared-slice-known4 = search needs in
-    let made : tie.After-past = search needs in
+    let made : tie.After-unplaced = search needs in
     let lowered : tie.After-lower = search needs in
     let done : tie.After-store = search needs in
     let a = start .args in (
@@ -33,7 +33,7 @@ returns c =
           (λ r. omega (arith, known .shared-slice-known4 .given r))
           (λ r l. lowered .lower .ensures r
           ∙ ap (λ (start : ℕ). leastOr start (column (now (a .place))) (keep (λ q. eqb (column (now (a .router)) q) r) (rowsOf (now (a .free)))))
-          (ap (λ (next : List ℕ). column next r) (made .past .ensures) ∙ getD-replicate mostRows r pastKeys 0 (omega arith))),
+          (ap (λ (next : List ℕ). column next r) (made .unplaced .ensures) ∙ getD-replicate mostRouters r pastKeys 0 (omega arith))),
       done .store .ensures .1,
     )
 

@@ -1,0 +1,71 @@
+-- What the forecast of one prefix takes from the bytes of a snapshot: where that prefix stands, and its routes.
+use Prim.Native.Nat.{ℕ, zero, suc, _+_, _*_, _≤_, _<_}
+use mathlib.Core.Path.{_≡_}
+use mathlib.Core.Bool.{cond}
+use mathlib.Core.List.{List}
+use lib.ListN.{length, take}
+use lib.Seq.{sets}
+use lib.Dec.{leb}
+use Rattle.model.specs.Rows.{table}
+use Rattle.model.specs.Decision.{Route}
+use Rattle.model.specs.Columns as decided
+use Rattle.model.specs.Stability.{Between, differing}
+use Rattle.snapshot.specs.Limits.{mostRouters, roomDistances, mostInPrefix}
+use Rattle.snapshot.specs.Records.{prefixForm, routeForm, size}
+use Rattle.snapshot.specs.Format.{Snapshot, Valid, encode}
+use Rattle.snapshot.specs.Reading.{accepted, reading}
+use Rattle.snapshot.specs.Tables.{Columns, putRoutes, mesh}
+use Rattle.fill.specs.Fill.{idsIn, entryIn, behindDistances, routesFrom, Wide}
+use Rattle.outlook.specs.declared.Differing.{Differing}
+
+-- the place behind the routes that stand from a place on
+abbrev pub behindRoutes : List ℕ → ℕ → ℕ
+behindRoutes bs at = at + size routeForm * length (routesFrom mostInPrefix bs at)
+
+-- the place of a prefix, so many behind the one at a place
+unfoldable pub placeFrom : ℕ → List ℕ → ℕ → ℕ
+placeFrom zero bs at = at
+placeFrom (suc more) bs at = cond (leb (at + size prefixForm) (length bs)) (placeFrom more bs (behindRoutes bs (at + size prefixForm))) at
+
+-- where the routes of the prefix of a number stand, where there are n routers; and these routes
+abbrev pub routesPlace : List ℕ → ℕ → ℕ → ℕ
+routesPlace bs n p = placeFrom p bs (behindDistances n) + size prefixForm
+
+abbrev pub askedRoutes : List ℕ → ℕ → ℕ → List Route
+askedRoutes bs n p = routesFrom mostInPrefix bs (routesPlace bs n p)
+
+-- the bytes are those of a snapshot of n routers that has a prefix of this number
+pub record Asked (bs : List ℕ) (n p : ℕ) : Type 0 where
+  pub snapshot : Snapshot
+  pub read : reading bs ≡ accepted snapshot
+  pub written : bs ≡ encode snapshot
+  pub valid : Valid snapshot
+  pub routers : n ≡ length (snapshot .ids)
+  pub below : p < length (snapshot .prefixes)
+
+-- room for what a prefix is decided on
+pub record Lends (ids distances : List ℕ) (c : Columns) : Type 0 where
+  pub ids-long : mostRouters ≤ length ids
+  pub distances-long : roomDistances ≤ length distances
+  pub rows : Wide mostInPrefix c
+
+-- ids, distances and columns with what that prefix is decided on; the rest of each is as before
+pub record Loaded (bs : List ℕ) (n p : ℕ) (ids₀ distances₀ : List ℕ) (c₀ : Columns) (rows : ℕ) (ids distances : List ℕ) (c : Columns) : Type 0 where
+  pub count : rows ≡ length (askedRoutes bs n p)
+  pub ids-are : ids ≡ sets ids₀ 0 (idsIn bs n)
+  pub distances-are : distances ≡ table (length distances₀) (entryIn bs n distances₀)
+  pub columns-are : c ≡ putRoutes c₀ 0 (askedRoutes bs n p)
+
+-- so many rows of each column, with MEDs as they stand
+abbrev pub front : ℕ → Columns → decided.Columns
+front rows c = decided.columns
+    (take rows (c .router)) (take rows (c .asn)) (take rows (c .preference)) (take rows (c .path))
+    (take rows (c .origin)) (take rows (c .med)) (take rows (c .nid)) (take rows (c .peer))
+
+-- the early and the late rows of the prefix of a number of the snapshot in the bytes, and the number of routers that differ
+pub record Forecast (bs : List ℕ) (p : ℕ) (d : Differing) (early late : List ℕ) : Type 0 where
+  pub snapshot : Snapshot
+  pub read : reading bs ≡ accepted snapshot
+  pub below : p < length (snapshot .prefixes)
+  pub between : Between (mesh snapshot p) early late
+  pub number : d .number ≡ length (differing (mesh snapshot p) early late)

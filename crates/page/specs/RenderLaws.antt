@@ -1,0 +1,164 @@
+-- What is rendered is the page of the bytes given: from reading to tables, and from tables to text.
+use Prim.Native.Nat.{ℕ, _+_, _*_, _≤_, _<_}
+use native.Mathlib.Nat.{mul-le-mul-left}
+use native.Mathlib.Omega.{arith}
+use mathlib.Core.Path.{_≡_, refl, sym, ap, ap₂, subst, subst₂, _∙_}
+use mathlib.Core.Bool.{not}
+use mathlib.Core.List.{List, [], _∷_, _++_, map}
+use lib.Dec.{T, eqb}
+use lib.ListN.{length, getD, drop, length-map, List·getD-append}
+use lib.Seq.{sets, sets-eq}
+use lib.Pow.{areBytes}
+use Rattle.refusal.specs.declared.Refusal.{Refusal}
+use Rattle.refusal.specs.Numbers.{numberOf}
+use Rattle.model.specs.Rows.{keep, span, column}
+use Rattle.model.specs.RowLaws.{In, here, there, in-span}
+use Rattle.model.specs.Decision.{Mesh, none}
+use Rattle.model.specs.Contest.{early, late}
+use Rattle.model.specs.Columns.{Columns, lentMesh}
+use Rattle.snapshot.specs.declared.Counts.{Counts}
+use Rattle.snapshot.specs.Limits.{mostRouters, mostPrefixes}
+use Rattle.snapshot.specs.RangesLaws.{none-any}
+use Rattle.snapshot.specs.Format.{Prefix, Snapshot}
+use Rattle.snapshot.specs.Reading.{accepted, refused, reading}
+use Rattle.snapshot.specs.Theorems.{accepts}
+use Rattle.snapshot.specs.Tables.{Tables, short, Held, mesh}
+use Rattle.scan.specs.declared.Read.the-variants as read
+use Rattle.tables.specs.Judging.{Room, Holding, start}
+use Rattle.tables.specs.Theorems.{has-room}
+use Rattle.tables.specs.FilledLaws.{filled-held, filled-room}
+use Rattle.outlook.specs.Outlook.{cut}
+use Rattle.outlook.specs.OutlookLaws.{whole, part-of, n-is, same-parts, lent, pair}
+use Rattle.reader.specs.Read.{readAnswer, readTables}
+use Rattle.reader.specs.ReadLaws.{was-refused, was-accepted, tables-left}
+use Rattle.lines.specs.Lines.{widest, headingLine, refusedLine}
+use Rattle.text.specs.Text.{each, Puts}
+use Rattle.text.specs.TextLaws.{puts-as}
+use Rattle.page.specs.declared.Rendered.{Rendered}
+use Rattle.page.specs.declared.Rendered.the-variants.{Text}
+use Rattle.page.specs.Page.{block, decidedText, prefixOf, snapshotText, answerText, page, widestBlock, widestPage, lentText, Blocks, Ready, Renders, room, text}
+
+-- texts that agree for each number of a list
+each-same : (f g : ℕ → List ℕ) (rs : List ℕ) → ((r : ℕ) → In r rs → f r ≡ g r) → each f rs ≡ each g rs
+each-same f g [] h = refl
+each-same f g (r ∷ rs) h = ap₂ {C = List ℕ} _++_ (h r (here refl)) (each-same f g rs (λ q m. h q (there m)))
+
+-- ---- tables that hold a snapshot
+
+module _ (counts : Counts) (t : Tables) (roomy : Room t) (holding : Holding counts t) where
+  pub blocks : (early late : List ℕ) → mostRouters ≤ length early → mostRouters ≤ length late
+      → Blocks (counts .routers) (counts .prefixes) (t .ids) (t .distances) (t .address) (t .bits) (t .routes) (whole t) (length early) (length late)
+  blocks early late re rl = record {
+    addresses = omega (arith, few, roomy .prefixes .address);
+    lengths = omega (arith, few, roomy .prefixes .bits);
+    numbers = omega (arith, few, roomy .prefixes .routes);
+    part = λ p first end l f e early₁ late₁ a b. part-of counts t p roomy holding l f e early₁ late₁ (omega arith) (omega arith);
+  }
+    where
+      few : counts .prefixes ≤ mostPrefixes
+      few = omega (arith, ap (λ (c : Counts). c .prefixes) (holding .held .0), holding .valid .fewPrefixes)
+
+  abbrev s : Snapshot
+  s = holding .snapshot
+
+  -- an entry of a table into which these values were filled
+  entry : (xs vals : List ℕ) → sets xs 0 vals ≡ xs → length vals ≤ length xs → (p : ℕ) → p < length vals → column xs p ≡ getD vals p 0
+  entry xs vals e l p h =
+      ap (λ (z : List ℕ). getD z p 0) (sym e ∙ sets-eq vals xs 0 (omega arith)) ∙ List·getD-append vals (drop (0 + length vals) xs) 0 p h
+
+  -- the text of a prefix of the tables is that of the prefix of the snapshot
+  prefix-text : (p : ℕ) → p < counts .prefixes
+      → lentText (counts .routers) (t .ids) (t .distances) (t .address) (t .bits) (t .routes) (whole t) p ≡ prefixOf s p
+  prefix-text p l =
+      ap₂ (λ (a b : ℕ). decidedText a b (lentMesh (counts .routers) (t .ids) (t .distances) (cut (start (t .routes) p) (column (t .routes) p) (whole t))))
+      (entry (t .address) addresses (ap (λ (u : Tables). u .address) (holding .held .1)) (omega (arith, n (λ q. q .address), few, roomy .prefixes .address)) p (omega (arith, n (λ q. q .address), below)))
+      (entry (t .bits) lengths (ap (λ (u : Tables). u .bits) (holding .held .1)) (omega (arith, n (λ q. q .bits), few, roomy .prefixes .bits)) p (omega (arith, n (λ q. q .bits), below)))
+      ∙ ap (λ (c : Columns). decidedText (getD addresses p 0) (getD lengths p 0) (lentMesh (counts .routers) (t .ids) (t .distances) c)) (same-parts counts t p roomy holding l)
+      ∙ ap (λ (k : ℕ). rows k (early L) (late L)) (n-is counts t p roomy holding l)
+      ∙ ap₂ (rows (length (s .ids))) (pair counts t p roomy holding l .0) (pair counts t p roomy holding l .1)
+    where
+      below : p < length (s .prefixes)
+      below = omega (arith, ap (λ (c : Counts). c .prefixes) (holding .held .0))
+
+      few : length (s .prefixes) ≤ mostPrefixes
+      few = holding .valid .fewPrefixes
+
+      n : (f : Prefix → ℕ) → length (map f (s .prefixes)) ≡ length (s .prefixes)
+      n f = length-map (s .prefixes) f
+
+      addresses : List ℕ
+      addresses = map (λ q. q .address) (s .prefixes)
+
+      lengths : List ℕ
+      lengths = map (λ q. q .bits) (s .prefixes)
+
+      L : Mesh
+      L = lent roomy (holding .valid) (holding .held) p below
+
+      -- a block by the number of routers and the rows
+      rows : ℕ → List ℕ → List ℕ → List ℕ
+      rows k e l = block (getD addresses p 0) (getD lengths p 0) (length (keep (λ r. not (eqb (getD e r none) (getD l r none))) (span 0 k))) (mesh s p .router) k e l
+
+  -- a buffer for any page has room for this one
+  pub page-room : (n : ℕ) → widestPage ≤ n → widest + widestBlock * counts .prefixes ≤ n
+  page-room n l =
+      let few : counts .prefixes ≤ mostPrefixes = omega (arith, ap (λ (c : Counts). c .prefixes) (holding .held .0), holding .valid .fewPrefixes) in
+      let k : widestBlock * counts .prefixes ≤ widestBlock * mostPrefixes = mul-le-mul-left widestBlock few in
+      omega arith
+
+  -- the text of the tables is the text of the snapshot
+  pub tables-text : headingLine (counts .routers) (counts .prefixes) ++ each (lentText (counts .routers) (t .ids) (t .distances) (t .address) (t .bits) (t .routes) (whole t)) (span 0 (counts .prefixes))
+      ≡ snapshotText s
+  tables-text =
+      ap (λ (x : List ℕ). headingLine (counts .routers) (counts .prefixes) ++ x)
+      (each-same (lentText (counts .routers) (t .ids) (t .distances) (t .address) (t .bits) (t .routes) (whole t)) (prefixOf s) (span 0 (counts .prefixes)) (λ p m. prefix-text p (omega (arith, in-span 0 (counts .prefixes) m))))
+      ∙ ap (λ (c : Counts). headingLine (c .routers) (c .prefixes) ++ each (prefixOf s) (span 0 (c .prefixes))) (holding .held .0)
+
+-- ---- what reading left
+
+module _ (bs : List ℕ) (t : Tables) (early late out : List ℕ) (ready : Ready t early late out) (bytes : T (areBytes bs)) where
+  -- refused: one line
+  pub refused-page : {r : Refusal} {at : ℕ} → read.Refused r at ≡ readAnswer bs t → page bs ≡ refusedLine (numberOf r) at
+  unfolding page
+  refused-page e = ap answerText (was-refused bs t (ready .room) e)
+
+  pub refused-puts : {before after : List ℕ} {end n : ℕ} {r : Refusal} {at : ℕ}
+      → Puts before after 0 end (refusedLine n at) → n ≡ numberOf r → read.Refused r at ≡ readAnswer bs t → Puts before after 0 end (page bs)
+  refused-puts {at} p e k = puts-as p (ap (λ (n : ℕ). refusedLine n at) e ∙ sym (refused-page k))
+
+  -- accepted: the tables hold the snapshot
+  pub record Filled (c : Counts) (u : Tables) : Type 0 where
+    pub room : Room u
+    pub holding : Holding c u
+    pub text : page bs ≡ snapshotText (holding .snapshot)
+
+  pub filled-page : {c : Counts} {u : Tables} → read.Accepted c ≡ readAnswer bs t → u ≡ readTables bs t → Filled c u
+  unfolding page
+  filled-page {c} {u} e f =
+      let (s, is, counts) = was-accepted bs t (ready .room) e in
+      let valid = accepts bs s bytes .0 is .1 in
+      let roomy = has-room t (none-any (short t) (ready .room)) in
+      let left = f ∙ tables-left bs t (ready .room) is in
+      record {
+        room = subst Room (sym left) (filled-room s roomy);
+        holding = record {
+          snapshot = s;
+          valid = valid;
+          held = subst₂ (λ (x : Counts) (y : Tables). Held x y s) (sym counts) (sym left) (filled-held valid roomy);
+        };
+        text = ap answerText is;
+      }
+
+-- ---- one answer
+
+pub rendered-text : (bs out : List ℕ) {end : ℕ} {after : List ℕ} → widestPage ≤ length out → Puts out after 0 end (page bs) → Renders bs out (Text end) after
+rendered-text bs out {end} {after} l p =
+    let e : end ≡ length (page bs) = omega (arith, p .place) in
+    subst₂ (λ (n : ℕ) (x : List ℕ). Renders bs out (Text n) x) (sym e) (sym (p .bytes)) (text l)
+
+-- two results that meet the promise are equal
+pub renders-one : {bs out : List ℕ} {a b : Rendered} {x y : List ℕ} → Renders bs out a x → Renders bs out b y → (a ≡ b) × (x ≡ y)
+renders-one (room h) (room k) = (refl, refl)
+renders-one (room h) (text k) = absurd (omega arith)
+renders-one (text h) (room k) = absurd (omega arith)
+renders-one (text h) (text k) = (refl, refl)
