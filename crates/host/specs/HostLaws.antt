@@ -144,10 +144,12 @@ asked bs bytes {p} {c} e m =
 -- ---- the rows in the area
 
 -- the rows of one router, put one after the other
-pub router-put : {a b c : List ℕ} (at early late : ℕ) {end : ℕ} → b ≡ sets a at (bytesOf 2 early) → c ≡ sets b (at + 2) (bytesOf 2 late) → end ≡ at + 4
+pub router-put : {a b c : List ℕ} (at early late : ℕ) {x y end : ℕ} → x ≡ early → b ≡ sets a at (bytesOf 2 x) → y ≡ late → c ≡ sets b (at + 2) (bytesOf 2 y) → end ≡ at + 4
     → Puts a c at end (bytesOf 2 early ++ bytesOf 2 late) × (end ≤ at + 4)
-router-put at early late {end} e f g = (
-  puts-then {mid = at + 2} {t = bytesOf 2 early} {u = bytesOf 2 late} (record { place = refl; bytes = e }) (record { place = omega arith; bytes = f }),
+router-put {a} {b} at early late {end = end} i e j f g = (
+  puts-then {mid = at + 2} {t = bytesOf 2 early} {u = bytesOf 2 late}
+      (record { place = refl; bytes = e ∙ ap (λ (v : ℕ). sets a at (bytesOf 2 v)) i })
+      (record { place = omega arith; bytes = f ∙ ap (λ (v : ℕ). sets b (at + 2) (bytesOf 2 v)) j }),
   omega arith,
 )
 

@@ -23,13 +23,20 @@ fn refused(r: Refusal) -> u32
     100 + refusal::number(r)
 }
 
+// A row as a number that is put.
+fn wide(row: u16) -> u32
+    ensures { λ x. ⌜ x ≡ row ⌝ }
+{
+    row as u32
+}
+
 // Puts the early and the late row of a router.
 fn put_router(area: &mut [u8], at: usize, early: u16, late: u16) -> usize
     requires { ⌜ at + 4 ≤ length (now area) ⌝ }
     ensures { λ end. ⌜ Puts (was area) (is area) at end (bytesOf 2 early ++ bytesOf 2 late) × (end ≤ at + 4) ⌝ }
 {
-    wire::put16(area, at, early as u32);
-    wire::put16(area, at + 2, late as u32);
+    wire::put16(area, at, wide(early));
+    wire::put16(area, at + 2, wide(late));
     at + 4
 }
 

@@ -2,18 +2,18 @@
 use Prim.Native.Nat.{ℕ, zero, suc, _+_, _-_, _*_, _≤_, _<_}
 use native.Mathlib.Nat.{not-suc-le-zero}
 use native.Mathlib.Omega.{arith}
-use mathlib.Core.Path.{_≡_, refl, sym, ap, ap₂, _∙_, subst, subst₂}
+use mathlib.Core.Path.{_≡_, sym, ap, ap₂, _∙_, subst, subst₂}
 use mathlib.Core.Bool.{Bool, cond}
 use mathlib.Core.List.{List, [], _∷_, _++_, map}
 use lib.ListN.{length, getD, take, drop, replicate, length-map, length-replicate}
 use lib.Seq.{sets, sets-eq, take-at}
 use borrow.Author.Tests.{le-leb}
 use Rattle.model.specs.Rows.{table}
-use Rattle.model.specs.Decision.{Route, Mesh}
+use Rattle.model.specs.Decision.{Route}
 use Rattle.model.specs.Columns as decided
 use Rattle.model.specs.Columns.{lentMesh, Placed}
 use Rattle.model.specs.Stability.{Between, differing}
-use Rattle.snapshot.specs.Limits.{mostRouters, roomDistances, mostPrefixes, mostInPrefix, mostRoutes}
+use Rattle.snapshot.specs.Limits.{mostInPrefix, mostRoutes}
 use Rattle.snapshot.specs.Records.{endForm, written}
 use Rattle.snapshot.specs.Format.{Prefix, Snapshot, Each, GoodPrefix, Valid, records, prefixesBytes, encode}
 use Rattle.snapshot.specs.Tables.{Columns, Tables, columns, tables, filled, putRoutes, routesOf, countsOf, Held, mesh}

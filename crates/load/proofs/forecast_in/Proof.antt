@@ -2,7 +2,6 @@
 use borrow.Author.Needs.{needs}
 use native.Mathlib.Omega.{arith}
 use lib.ListN.{length-take}
-use Rattle.fill.specs.Fill.{Wide}
 use Rattle.load.specs.LoadLaws.{loaded-long, loaded-placed, loaded-forecast}
 use Rattle.load.proofs.forecast_in.Statement.{statement}
 use Rattle.load.proofs.forecast_in.Tie as tie
