@@ -12,7 +12,6 @@ extern "C" {
         preference: *mut u32, preference_len: usize, path: *mut u32, path_len: usize,
         origin: *mut u32, origin_len: usize, mark: *mut u32, mark_len: usize, med: *mut u32, med_len: usize,
         nid: *mut u32, nid_len: usize, peer: *mut u32, peer_len: usize,
-        counts: *mut u32, counts_len: usize,
     ) -> u32;
     fn measure_write(
         routers: u32, prefixes: u32, routes: u32,
@@ -24,7 +23,7 @@ extern "C" {
         origin: *const u32, origin_len: usize, mark: *const u32, mark_len: usize, med: *const u32, med_len: usize,
         nid: *const u32, nid_len: usize, peer: *const u32, peer_len: usize,
         out: *mut u8, out_len: usize,
-    ) -> u32;
+    ) -> usize;
     fn measure_forecast(
         routers: u32, prefixes: u32, routes: u32,
         ids: *const u32, ids_len: usize, distances: *const u32, distances_len: usize,
@@ -56,25 +55,18 @@ macro_rules! call {
     }};
 }
 
-/// The counts, or the refusal's number.
-pub fn read(input: &[u8], lent: &mut Lent) -> Result<Counts, u32> {
-    let mut counts = [0; 3];
-    match call!(measure_read, (input.as_ptr(), input.len()), lent, (counts.as_mut_ptr(), counts.len())) {
-        0 => {
-            let [routers, prefixes, routes] = counts.map(|count: u32| count as usize);
-            Ok(Counts { routers, prefixes, routes })
-        }
-        number => Err(number),
-    }
+/// 0, or the refusal's number.
+pub fn read(input: &[u8], lent: &mut Lent) -> u32 {
+    call!(measure_read, (input.as_ptr(), input.len()), lent, ())
 }
 
 /// The number of bytes written, 0 for a refusal.
 pub fn write(counts: Counts, lent: &mut Lent, out: &mut [u8]) -> usize {
     let (routers, prefixes, routes) = (counts.routers as u32, counts.prefixes as u32, counts.routes as u32);
-    call!(measure_write, (routers, prefixes, routes), lent, (out.as_mut_ptr(), out.len())) as usize
+    call!(measure_write, (routers, prefixes, routes), lent, (out.as_mut_ptr(), out.len()))
 }
 
-/// The number of routers that differ, or 100 plus the refusal's number.
+/// The number of routers that differ, or 100 for a refusal.
 pub fn forecast(counts: Counts, lent: &mut Lent, prefix: usize, early: &mut [u16], late: &mut [u16]) -> u32 {
     let (routers, prefixes, routes) = (counts.routers as u32, counts.prefixes as u32, counts.routes as u32);
     call!(

@@ -1,0 +1,159 @@
+// The library's calls as the benchmarks make them: with numbers in place of enums, so that a C caller can take them.
+use outlook::Outlook;
+use scan::Read;
+use snapshot::Counts;
+use writer::Write;
+ghost use Rattle.model.specs.Lent.{was, is};
+ghost use Rattle.snapshot.specs.Tables.{tables, columns};
+ghost use Rattle.measure.specs.Measure.{Reads, Writes, Forecasts};
+
+// Reads a snapshot: 0, or the number of the refusal.
+#[no_mangle]
+pub extern "C" fn measure_read(
+    input: &[u8],
+    ids: &mut [u32],
+    distances: &mut [u32],
+    address: &mut [u32],
+    bits: &mut [u32],
+    routes: &mut [u32],
+    router: &mut [u32],
+    asn: &mut [u32],
+    preference: &mut [u32],
+    path: &mut [u32],
+    origin: &mut [u32],
+    mark: &mut [u32],
+    med: &mut [u32],
+    nid: &mut [u32],
+    peer: &mut [u32],
+) -> u32
+    ensures { λ r. ⌜ Reads (was input) (tables (was ids) (was distances) (was address) (was bits) (was routes) (columns (was router) (was asn) (was preference) (was path) (was origin) (was mark) (was med) (was nid) (was peer))) (tables (is ids) (is distances) (is address) (is bits) (is routes) (columns (is router) (is asn) (is preference) (is path) (is origin) (is mark) (is med) (is nid) (is peer))) r ⌝ }
+{
+    match reader::read_snapshot(
+        input,
+        ids,
+        distances,
+        address,
+        bits,
+        routes,
+        router,
+        asn,
+        preference,
+        path,
+        origin,
+        mark,
+        med,
+        nid,
+        peer,
+    ) {
+        Read::Refused(r, _) => refusal::number(r),
+        Read::Accepted(_) => 0,
+    }
+}
+
+// Writes a snapshot: how many bytes, or 0 for a refusal.
+#[no_mangle]
+pub extern "C" fn measure_write(
+    routers: u32,
+    prefixes: u32,
+    of_routes: u32,
+    ids: &[u32],
+    distances: &[u32],
+    address: &[u32],
+    bits: &[u32],
+    routes: &[u32],
+    router: &[u32],
+    asn: &[u32],
+    preference: &[u32],
+    path: &[u32],
+    origin: &[u32],
+    mark: &[u32],
+    med: &[u32],
+    nid: &[u32],
+    peer: &[u32],
+    out: &mut [u8],
+) -> usize
+    ensures { λ r. ⌜ Writes routers prefixes «of_routes» (tables (was ids) (was distances) (was address) (was bits) (was routes) (columns (was router) (was asn) (was preference) (was path) (was origin) (was mark) (was med) (was nid) (was peer))) (was out) (is out) r ⌝ }
+{
+    let counts = Counts {
+        routers: routers,
+        prefixes: prefixes,
+        routes: of_routes,
+    };
+    match writer::write_snapshot(
+        counts,
+        ids,
+        distances,
+        address,
+        bits,
+        routes,
+        router,
+        asn,
+        preference,
+        path,
+        origin,
+        mark,
+        med,
+        nid,
+        peer,
+        out,
+    ) {
+        Write::Written(n) => n,
+        Write::Refused(_, _) => 0,
+    }
+}
+
+// Forecasts a prefix: how many routers differ, or 100 for a refusal.
+#[no_mangle]
+pub extern "C" fn measure_forecast(
+    routers: u32,
+    prefixes: u32,
+    of_routes: u32,
+    ids: &[u32],
+    distances: &[u32],
+    address: &[u32],
+    bits: &[u32],
+    routes: &[u32],
+    router: &[u32],
+    asn: &[u32],
+    preference: &[u32],
+    path: &[u32],
+    origin: &[u32],
+    mark: &[u32],
+    med: &[u32],
+    nid: &[u32],
+    peer: &[u32],
+    prefix: u32,
+    early: &mut [u16],
+    late: &mut [u16],
+) -> u32
+    ensures { λ r. ⌜ Forecasts routers prefixes «of_routes» (tables (was ids) (was distances) (was address) (was bits) (was routes) (columns (was router) (was asn) (was preference) (was path) (was origin) (was mark) (was med) (was nid) (was peer))) prefix (was early) (was late) (is early) (is late) r ⌝ }
+{
+    let counts = Counts {
+        routers: routers,
+        prefixes: prefixes,
+        routes: of_routes,
+    };
+    match outlook::forecast(
+        counts,
+        ids,
+        distances,
+        address,
+        bits,
+        routes,
+        router,
+        asn,
+        preference,
+        path,
+        origin,
+        mark,
+        med,
+        nid,
+        peer,
+        prefix,
+        early,
+        late,
+    ) {
+        Outlook::Forecast(d) => d.number,
+        Outlook::Refused(_, _) => 100,
+    }
+}
