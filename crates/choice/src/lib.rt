@@ -85,7 +85,11 @@ fn unbeaten(asn: &[u32], med: &[u32], kept: &[bool], left: &mut [bool])
     ensures { λ _. ⌜ rowsOf (is left) ≡ unbeatenBy (beatsBy (col asn) (col med)) (rowsOf (was kept)) (rowsOf (was kept)) ⌝ }
 {
     for q in 0..kept.len() {
-        let mut stays = kept[q];
+        if !kept[q] {
+            left[q] = false;
+            continue;
+        }
+        let mut stays = true;
         'scan: for p in 0..kept.len() {
             if beats(asn, med, kept, p, q) {
                 stays = false;
@@ -133,12 +137,8 @@ fn far(router: &[u32], distances: &[u32], q: usize, r: u32) -> u32
     ensures { λ x. ⌜ x ≡ cond (eqb (col router q) r) 0 (distanceIn (was distances) r (col router q)) ⌝ }
 {
     let owner = router[q] as usize;
-    let from = r as usize;
-    pick(
-        router[q] == r,
-        0,
-        distances[from * rows::MOST_ROUTERS + owner],
-    )
+    let at = (r as usize) * rows::MOST_ROUTERS + owner;
+    pick(router[q] == r, 0, distances[at])
 }
 
 // 6. The lowest interior distance to the router that owns the route (0 for one's own).
