@@ -75,7 +75,7 @@ static size_t deepest_of_all(const char *name) {
         size_t taken = depth(call);
         most = taken > most ? taken : most;
         prefix++;
-    } while (given <= 64);
+    } while (given <= 64 && prefix <= 64);
     check(given == BARRIEROSE_NO_PREFIX && prefix > 1, name);
     return most;
 }
