@@ -1,5 +1,5 @@
 -- Laws of the decision process: what each step keeps, on which rows the first three agree, and that one row is left.
-use Prim.Native.Nat.{ℕ, zero, suc, _≤_, _<_}
+use Prim.Native.Nat.{ℕ, _≤_, _<_}
 use native.Mathlib.Nat.{le-trans}
 use native.Mathlib.Omega.{arith}
 use mathlib.Core.Path.{_≡_, sym, ap, subst, _∙_}
@@ -7,11 +7,11 @@ use mathlib.Core.Logic.{_⊎_, inl, inr}
 use mathlib.Core.Bool.{Bool, true, cond, not}
 use mathlib.Core.List.{List, [], _∷_}
 use lib.Dec.{T, eqb, ltb, eqb→eq, ltb→lt}
-use lib.ListN.{length}
-use Rattle.model.specs.Rows.{keep, some, least, keepLeast}
-use Rattle.model.specs.RowLaws.{In, Some, Picks, picks-least, picks-greatest, least-le, least-some, in-keep, keep-in, in-some, some-in, not-some, none-some}
+use Rattle.model.specs.Rows.{keep, some, least}
+use Rattle.model.specs.RowLaws.{In, Some, in-keep, keep-in, in-some, some-in, not-some, none-some}
 use Rattle.model.specs.RowLaws.{and-right, test-true, test-false, decide, eq→eqb, in-span, first-in, member-or-empty}
 use Rattle.model.specs.RowLaws.{Filtered, filtered-keep, within, one-left}
+use Rattle.model.specs.LeastLaws.{Picks, picks-least, picks-greatest, least-le, least-some}
 use Rattle.model.specs.Stability.{Sound}
 use Rattle.model.specs.Decision.{Mesh, none, all, metric, beats, unbeaten, ownOf, ownIfAny, nearest, far, tieId, preferred, decided, choice}
 
@@ -244,10 +244,6 @@ module _ (M : Mesh) (sound : Sound M) where
       own (inl e) = subst (λ (l : List ℕ). Filtered l (all M)) (sym (e .1)) (filtered-keep (ownOf M r) fu)
       own (inr e) = subst (λ (l : List ℕ). Filtered l (all M)) (sym (e .1)) fu
 
-  pub choice-is : (r : ℕ) {h : ℕ} (rows : List ℕ) → ((q : ℕ) → In q rows → In q (all M)) → In h (decided M r rows) → choice M r rows ≡ h
-  choice-is r {h} rows sub m = last-one r (unbeaten M (preferred M rows))
-      (λ q n. sub q (picks-preferred M .from rows (picks-unbeaten M .from (preferred M rows) n))) (first-in (decided M r rows) none m) m
-
   -- none is chosen exactly where there is nothing to choose from
   pub choice-none : (r : ℕ) (rows : List ℕ) → ((q : ℕ) → In q rows → In q (all M)) → choice M r rows ≡ none → rows ≡ []
   choice-none r rows sub e = elim (member-or-empty rows) [
@@ -257,10 +253,3 @@ module _ (M : Mesh) (sound : Sound M) where
 
   pub none-choice : (r : ℕ) (rows : List ℕ) → rows ≡ [] → choice M r rows ≡ none
   none-choice r rows e = ap (choice M r) e
-
-  -- what is chosen is one of the rows
-  pub choice-in : (r : ℕ) (rows : List ℕ) → In (choice M r rows) rows ⊎ ((rows ≡ []) × (choice M r rows ≡ none))
-  choice-in r rows = elim (member-or-empty rows) [
-    | inl w ↦ inl (decided-in M r rows (choice-decided M r rows (w .member)))
-    | inr z ↦ inr (z, none-choice r rows z)
-  ]
