@@ -1,6 +1,5 @@
 -- The order theory of a fair contest. `refine` is monotone, its fixed points are the calm states, and all of them lie between two
--- of them, `earliest` and `latest`. Where the owners move one at a time from the bottom, in any sequence, none ever falls back, few
--- moves change anything, and a state that comes to rest is `earliest`. The theorems stand at the end of the file.
+-- of them, `earliest` and `latest`. The theorems stand at the end of the file.
 use Prim.Native.Nat.{ℕ, zero, suc, _-_, _<_, _≤_}
 use mathlib.Core.Path.{_≡_, refl, sym, ap, _∙_, subst, fun-ext}
 use mathlib.Core.Logic.{_⊎_, inl, inr, ⊎-elim}
@@ -11,7 +10,8 @@ use native.Mathlib.Omega.{arith}
 use lib.Dec.{eqb, leb, T, T-not, not-T, eqb→eq, eqb-refl, leb→le, le→leb}
 use lib.ListN.{length, getD}
 use Rattle.model.specs.Rows.{keep, some, table}
-use Rattle.model.specs.RowLaws.{decide, le-or-lt, and-both, and-left, and-right, eq→eqb, In, Some, in-keep, keep-in, some-in, in-some, table-length, table-at, tallies}
+use Rattle.model.specs.NumberLaws.{le-or-lt}
+use Rattle.model.specs.RowLaws.{decide, and-both, and-left, and-right, eq→eqb, In, Some, in-keep, keep-in, some-in, in-some, table-length, table-at, tallies}
 use Rattle.model.specs.RowLaws.{_⊑_, table-⊑, total, total-mono, total-eq}
 use Rattle.model.specs.LeastLaws.{leastOr-past, leastOr-le, le-leastOr}
 use Rattle.model.specs.Contest.{Contest, end, passed, heldItems, firstFree, refine, calm, repeat, bottom, top, earliest, latest}

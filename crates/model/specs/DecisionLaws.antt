@@ -9,7 +9,7 @@ use mathlib.Core.List.{List, [], _∷_}
 use lib.Dec.{T, eqb, ltb, eqb→eq, ltb→lt}
 use Rattle.model.specs.Rows.{keep, some, least}
 use Rattle.model.specs.RowLaws.{In, Some, in-keep, keep-in, in-some, some-in, not-some, none-some}
-use Rattle.model.specs.RowLaws.{and-right, test-true, test-false, decide, eq→eqb, in-span, first-in, member-or-empty}
+use Rattle.model.specs.RowLaws.{and-left, and-right, test-true, test-false, decide, eq→eqb, in-span, first-in, member-or-empty}
 use Rattle.model.specs.RowLaws.{Filtered, filtered-keep, within, one-left}
 use Rattle.model.specs.LeastLaws.{Picks, picks-least, picks-greatest, least-le, least-some}
 use Rattle.model.specs.Stability.{Sound}
@@ -61,6 +61,12 @@ module _ (M : Mesh) where
 
   -- ---- step 4
 
+  pub beats-is : (p q : ℕ) → T (beats M p q) → (M .asn p ≡ M .asn q) × (metric M p < metric M q)
+  beats-is p q t =
+      let asn = eqb (M .asn p) (M .asn q) in
+      let lower = ltb (metric M p) (metric M q) in
+      (eqb→eq (M .asn p) (M .asn q) (and-left asn lower t), ltb→lt (metric M p) (metric M q) (and-right asn lower t))
+
   pub picks-unbeaten : Picks (λ q p. T (beats M p q) → ⊥) (unbeaten M)
   picks-unbeaten = record {
     from = λ rows m. keep-in (test rows) rows m .0;
@@ -73,7 +79,7 @@ module _ (M : Mesh) where
       test rows q = not (some (λ p. beats M p q) rows)
 
       free : (rows : List ℕ) (w : Some (λ q. metric M q ≡ least (metric M) rows) rows) (p : ℕ) → In p rows → T (beats M p (w .row)) → ⊥
-      free rows w p n b = omega (arith, ltb→lt (metric M p) (metric M (w .row)) (and-right (eqb (M .asn p) (M .asn (w .row))) (ltb (metric M p) (metric M (w .row))) b), w .passes, least-le (metric M) rows n)
+      free rows w p n b = omega (arith, beats-is p (w .row) b .1, w .passes, least-le (metric M) rows n)
 
       low : (rows : List ℕ) → Some (λ q. metric M q ≡ least (metric M) rows) rows → Some (λ q. Unit {0}) (unbeaten M rows)
       low rows w = record { row = w .row; member = in-keep (test rows) rows (w .member) (not-some (λ z. beats M z (w .row)) rows (free rows w)); passes = tt }

@@ -7,14 +7,14 @@ use mathlib.Core.Path.{_≡_, sym, ap, subst, _∙_, fun-ext}
 use mathlib.Core.Logic.{_⊎_, inl, inr}
 use mathlib.Core.Bool.{Bool, _&&_, not, and-comm}
 use mathlib.Core.List.{List, []}
-use lib.Dec.{T, eqb, ltb, eqb→eq, eqb-refl, ltb→lt, lt→ltb}
+use lib.Dec.{T, eqb, ltb, eqb→eq, eqb-refl, lt→ltb}
 use lib.ListN.{length, getD}
 use borrow.Author.Tests.{eqb-true}
 use Rattle.model.specs.Rows.{keep, some, count, table}
 use Rattle.model.specs.RowLaws.{by, In, Some, in-keep, keep-in, keep-keep, some-kept, count-kept, and-left, and-right, and-both, not-some, none-some, eq→eqb}
 use Rattle.model.specs.RowLaws.{nowhere, member-or-empty, first-cases, count-length, table-at, table-length, table-same}
 use Rattle.model.specs.Decision.{Mesh, none, all, metric, beats, unbeaten, ownOf, preferred, decided, choice}
-use Rattle.model.specs.DecisionLaws.{owned, First, picks-preferred, picks-unbeaten, last-own, choice-decided, decided-in, not-none, not-past}
+use Rattle.model.specs.DecisionLaws.{beats-is, owned, First, picks-preferred, picks-unbeaten, last-own, choice-decided, decided-in, not-none, not-past}
 use Rattle.model.specs.Stability.{Sound, available, Stable, contenders, before, standing, standings, Between}
 use Rattle.model.specs.StabilityLaws.{preferred-all, contender-preferred, contender-own, contender-free, standing-in, standing-out, standing-end, standing-le, standing-one, standing-pin}
 use Rattle.model.specs.StabilityLaws.{available-all, available-cases, available-own, available-held, available-same, preferred-into, preferred-from, decided-free, decided-contender, anchor, held-contender}
@@ -308,12 +308,6 @@ module _ (M : Mesh) (sound : Sound M) where
 -- ---- the contest of a sound prefix is fair, so the two states that rounds lead to are such
 
 module _ (M : Mesh) where
-  beats-is : (p q : ℕ) → T (beats M p q) → (M .asn p ≡ M .asn q) × (metric M p < metric M q)
-  beats-is p q t =
-      let asn = eqb (M .asn p) (M .asn q) in
-      let lower = ltb (metric M p) (metric M q) in
-      (eqb→eq (M .asn p) (M .asn q) (and-left asn lower t), ltb→lt (metric M p) (metric M q) (and-right asn lower t))
-
   is-beats : (p q : ℕ) → M .asn p ≡ M .asn q → metric M p < metric M q → T (beats M p q)
   is-beats p q e l = and-both (eqb (M .asn p) (M .asn q)) (ltb (metric M p) (metric M q)) (eq→eqb e) (lt→ltb (metric M p) (metric M q) l)
 
@@ -321,11 +315,11 @@ module _ (M : Mesh) where
   fair sound = record {
     owned = λ q m. owned M sound (preferred-all M (contender-preferred M (M .router q) (item-contender M m)));
     beats-trans = λ a b c i j k s t.
-        let u = beats-is a b s in
-        let v = beats-is b c t in
+        let u = beats-is M a b s in
+        let v = beats-is M b c t in
         is-beats a c (u .0 ∙ v .0) (omega (arith, u .1, v .1));
     metric = metric M;
-    grows = λ p q i j t. beats-is p q t .1;
+    grows = λ p q i j t. beats-is M p q t .1;
   }
 
   pub early-late : Sound M → Between M (early M) (late M)

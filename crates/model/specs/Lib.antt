@@ -4,6 +4,7 @@ pub mod Stability
 pub mod Order
 pub mod Contest
 pub mod Cases
+pub mod NumberLaws
 pub mod RowLaws
 pub mod LeastLaws
 pub mod SoundLaws

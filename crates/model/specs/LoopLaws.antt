@@ -70,7 +70,12 @@ pub record Seek (test : ℕ → Bool) (kept : List Bool) (i : ℕ) : Type 0 wher
 
 module _ {test : ℕ → Bool} {kept : List Bool} where
   pub seek : Seek test kept 0
-  seek = record { at = walk (some-kept (on kept) test (span 0 (length kept)) ∙ sym (some-kept (λ q. on kept q && test q) (λ q. true) (span 0 (length kept)) ∙ ap (λ (t : ℕ → Bool). some t (span 0 (length kept))) (fun-ext λ q. and-true (on kept q && test q)))) }
+  seek =
+      let rows = span 0 (length kept) in
+      let passes : ℕ → Bool = λ q. on kept q && test q in
+      let any : some (λ q. true) (keep passes rows) ≡ some passes rows =
+      some-kept passes (λ q. true) rows ∙ ap (λ (t : ℕ → Bool). some t rows) (fun-ext λ q. and-true (passes q)) in
+      record { at = walk (some-kept (on kept) test rows ∙ sym any) }
 
   module _ {i : ℕ} (s : Seek test kept i) where
     pub seek-end : length kept ≤ i → false ≡ some test (rowsOf kept)

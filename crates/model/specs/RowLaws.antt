@@ -1,4 +1,4 @@
--- Laws of the lists of rows: membership, what filters keep, counts, tables, and the pointwise order of lists of numbers.
+-- Laws of the lists of rows: membership, what filters keep, what agrees on the members, counts, tables, and the pointwise order of lists of numbers.
 use Prim.Native.Nat.{ℕ, zero, suc, _+_, _≤_, _<_, zero-le}
 use native.Mathlib.Nat.{not-suc-le-zero}
 use native.Mathlib.Omega.{arith}
@@ -6,9 +6,10 @@ use mathlib.Core.Path.{_≡_, refl, sym, ap, ap₂, subst, _∙_}
 use mathlib.Core.Logic.{_⊎_, inl, inr, ⊎-elim}
 use mathlib.Core.Bool.{Bool, true, false, cond, _&&_, _||_, not, false≢true}
 use mathlib.Core.List.{List, [], _∷_, map}
-use lib.Dec.{T, eqb, leb, eqb→eq, eqb-refl, leb→le, nleb→lt, T-not, not-T}
+use lib.Dec.{T, eqb, eqb→eq, eqb-refl, T-not, not-T}
 use lib.ListN.{length, getD, length-map, List·getD-eq-default}
 use lib.Seq.{ext-getD}
+use Rattle.model.specs.NumberLaws.{le-or-lt}
 use Rattle.model.specs.Rows.{keep, some, count, span, table}
 
 -- ---- tests
@@ -320,11 +321,6 @@ table-same f g n h = go 0 n (λ k l. h k (omega arith))
     go : (from m : ℕ) → ((k : ℕ) → k < from + m → f k ≡ g k) → map f (span from m) ≡ map g (span from m)
     go from zero h = refl
     go from (suc m) h = rw (h from (omega arith), go (suc from) m (λ k l. h k (omega arith)))
-
--- ---- numbers
-
-pub le-or-lt : (m n : ℕ) → (m ≤ n) ⊎ (n < m)
-le-or-lt m n = elim (decide (leb m n)) [ inl t ↦ inl (leb→le m n t) | inr f ↦ inr (nleb→lt m n (not-T (leb m n) f)) ]
 
 -- ---- the pointwise order
 
