@@ -4,9 +4,9 @@ ghost use mathlib.Core.Path.{_≡_};
 ghost use lib.ListN.{length};
 ghost use Rattle.model.specs.Rows.{table};
 ghost use Rattle.model.specs.Lent.{was, is};
-ghost use Rattle.model.specs.Columns.{columns, lentMesh, choiceOf, Placed, ForecastRows};
+ghost use Rattle.model.specs.Columns.{columns, lentMesh, choiceOf, Placed, Rests, ForecastRows};
 
-// What each router chooses where the routers hold the rows `own`.
+// What each router chooses where the routers hold the rows `own` at rest: only those that hold no row of their own have to choose.
 fn hold(
     router: &[u32],
     asn: &[u32],
@@ -22,10 +22,15 @@ fn hold(
     held: &mut [u16],
 )
     requires { ⌜ Placed (length (now own)) (now ids) (now distances) (columns (now router) (now asn) (now preference) (now path) (now origin) (now med) (now nid) (now peer)) ⌝ }
+    requires { ⌜ Rests (length (now own)) (now ids) (now distances) (columns (now router) (now asn) (now preference) (now path) (now origin) (now med) (now nid) (now peer)) (now own) ⌝ }
     requires { ⌜ length (now held) ≡ length (now own) ⌝ }
     ensures { λ _. ⌜ is held ≡ table (length (was own)) (choiceOf (length (was own)) (was ids) (was distances) (columns (was router) (was asn) (was preference) (was path) (was origin) (was med) (was nid) (was peer)) (was own)) ⌝ }
 {
     for r in 0..own.len() {
+        if own[r] != rows::NONE {
+            held[r] = own[r];
+            continue;
+        }
         let chosen = choice::choose(
             router,
             asn,

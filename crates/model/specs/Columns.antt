@@ -5,8 +5,8 @@ use mathlib.Core.Path.{_≡_}
 use mathlib.Core.List.{List, []}
 use lib.ListN.{length}
 use Rattle.model.specs.Rows.{column}
-use Rattle.model.specs.Decision.{Mesh, choice}
-use Rattle.model.specs.Stability.{available}
+use Rattle.model.specs.Decision.{Mesh, none, choice}
+use Rattle.model.specs.Stability.{Sound, available}
 use Rattle.model.specs.Contest.{early, late}
 
 -- the most routers; also the stride of the table of distances
@@ -87,11 +87,16 @@ pub record Fits (routers : ℕ) (t : Columns) : Type 0 where
   pub peer : length (t .peer) ≡ length (t .router)
   pub owned : (q : ℕ) → q < length (t .router) → column (t .router) q < routers
 
--- such columns with the ids and distances of the routers
+-- such columns with the ids and distances of the routers, and what a snapshot's prefix is known to be
 pub record Placed (routers : ℕ) (ids distances : List ℕ) (t : Columns) : Type 0 where
   pub fits : Fits routers t
   pub ids-long : routers ≤ length ids
   pub distances-long : mostRouters * mostRouters ≤ length distances
+  pub sound : Sound (lentMesh routers ids distances t)
+
+-- where each router holds what `own` says: every router that holds a row chooses that row
+abbrev pub Rests : ℕ → List ℕ → List ℕ → Columns → List ℕ → Type 0
+Rests routers ids distances t own = (r : ℕ) → r < routers → (column own r ≡ none → ⊥) → choiceOf routers ids distances t own r ≡ column own r
 
 -- the early and the late row of each router of a mesh
 pub record ForecastRows (M : Mesh) (earlies lates : List ℕ) : Type 0 where

@@ -266,6 +266,17 @@ module _ (M : Mesh) (sound : Sound M) where
       pub standing-at : (r : ℕ) → r < M .routers → standing M r (getD (holding M x) r none) ≡ getD x r 0
       standing-at r lt = ap (standing M r) (held-at r lt) ∙ chosen-standing M sound placedRows (heldItems (contest M) x) calm-announced r ∙ sym (calm-at (contest M) x c r lt)
 
+      -- a router that stands at a row of its own chooses it
+      pub stands-chosen : (r : ℕ) → r < M .routers → (atPlace M x r ≡ none → ⊥) → choice M r (available M placedRows r) ≡ atPlace M x r
+      stands-chosen r lt some = go (member-or-empty (placed r))
+        where
+          go : Some (λ q. Unit {0}) (placed r) ⊎ (placed r ≡ []) → choice M r (available M placedRows r) ≡ atPlace M x r
+          go (inl w) =
+              let k = keep-in (λ q. eqb (standing M r q) (getD x r 0)) (contenders M r) (w .member) in
+              let s = eqb→eq (standing M r (w .row)) (getD x r 0) (k .1) in
+              sym (held-at r lt) ∙ sym (standing-pin M sound r (k .0) (s ∙ sym (standing-at r lt))) ∙ sym (at-place r (k .0) s)
+          go (inr z) = absurd (some (ap (leastOr none (λ q. q)) z))
+
       pub calm-stable : Stable M (holding M x)
       calm-stable = record {
         size = table-length (M .routers) (λ r. choice M r (available M placedRows r));
@@ -273,8 +284,10 @@ module _ (M : Mesh) (sound : Sound M) where
       }
         where
           into : (q : ℕ) → In q (all M) → getD placedRows (M .router q) none ≡ q → getD (holding M x) (M .router q) none ≡ q
-          into q m e = let k = place-at (M .router q) m (sym (table-at (atPlace M x) none _ _ (owned M sound m)) ∙ e) in
-              sym (standing-pin M sound (M .router q) (k .0) (k .1 ∙ sym (standing-at (M .router q) (owned M sound m))))
+          into q m e =
+              let lt = owned M sound m in
+              let is = sym (table-at (atPlace M x) none _ _ lt) ∙ e in
+              held-at (M .router q) lt ∙ stands-chosen (M .router q) lt (λ z. not-none M sound m (sym is ∙ z)) ∙ is
 
           from : (q : ℕ) → In q (all M) → getD (holding M x) (M .router q) none ≡ q → getD placedRows (M .router q) none ≡ q
           from q m e = table-at (atPlace M x) none _ _ lt ∙ at-place o contends (ap (standing M o) (sym e) ∙ standing-at o lt)

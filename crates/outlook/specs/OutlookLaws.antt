@@ -22,7 +22,7 @@ use Rattle.tables.specs.Theorems.{held-one, held-ids, held-distance, held-count
 use Rattle.tables.specs.Judging.{Room, Holding, start}
 use Rattle.model.specs.Rows.{keep, span, table, column}
 use Rattle.model.specs.Decision.{Route, Mesh, metric, choice}
-use Rattle.model.specs.Stability.{Between, Only, available, differing}
+use Rattle.model.specs.Stability.{Sound, Between, Only, available, differing}
 use Rattle.model.specs.Contest.{early, late, atPlace, holding, earliest, latest, contest}
 use Rattle.model.specs.Columns.{Columns, columns, lentMesh, ForecastRows, Placed}
 use Rattle.model.specs.MeshLaws.{Alike, sound-alike, between-alike}
@@ -181,11 +181,12 @@ module _ {counts : Counts} {t : Tables} {s : Snapshot} (enough : Room t) (valid 
       n : counts .routers ≡ length (s .ids)
       n = ap (λ (c : Counts). c .routers) (held .0)
 
+  lent-sound : Sound lent
+  lent-sound = sound-alike lent (mesh s p) lent-alike (sound valid p below)
+
   -- early and late of what the code decides on are early and late of that prefix of the snapshot
   pub lent-between : Between (mesh s p) (early lent) (late lent)
-  lent-between =
-      let known = sound-alike lent (mesh s p) lent-alike (sound valid p below) in
-      between-alike lent (mesh s p) lent-alike known (early lent) (late lent) (forecast lent known)
+  lent-between = between-alike lent (mesh s p) lent-alike lent-sound (early lent) (late lent) (forecast lent lent-sound)
 
   -- and what it needs to know of that
   pub lent-placed : Placed (counts .routers) (t .ids) (t .distances) (columnsOf (routesOf s p))
@@ -204,6 +205,7 @@ module _ {counts : Counts} {t : Tables} {s : Snapshot} (enough : Room t) (valid 
     };
     ids-long = omega (arith, few, enough .ids);
     distances-long = enough .distances;
+    sound = lent-sound;
   }
     where
       n : counts .routers ≡ length (s .ids)
