@@ -18,6 +18,7 @@ pub mod Lent
 pub mod Columns
 pub mod Arrangement
 pub mod LoopLaws
+pub mod ListLaws
 pub mod ColumnLaws
 pub mod ArrangementLaws
 pub mod RoundLaws
