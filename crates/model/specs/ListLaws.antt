@@ -10,9 +10,9 @@ use mathlib.Core.Bool.{Bool, true, false, cond, _||_, or-true, or-false}
 use mathlib.Core.List.{List, [], _∷_, _++_, append-nil, map-id}
 use lib.Dec.{eqb}
 use lib.ListN.{length, getD, take, drop, set, replicate, length-set, length-append, length-replicate, getD-replicate, drop-of-length-le}
-use lib.Seq.{drop-cons, drop-drop, drop-set-lt, take-suc-set, take-append-le, take-length, append-snoc, getD-drop, getD-set-same, getD-set-other, ext-getD}
+use lib.Seq.{drop-cons, drop-drop, drop-set-lt, take-suc-set, take-append-le, take-length, length-take-le, append-snoc, getD-drop, getD-set-same, getD-set-other, ext-getD}
 use borrow.Author.Tests.{eqb-true, eqb-false, eq-eqb}
-use Rattle.model.specs.Rows.{keep, some, span, table, greatest, keepLeast, column}
+use Rattle.model.specs.Rows.{keep, some, span, table, least, greatest, keepLeast, keepGreatest, column}
 use Rattle.model.specs.Contest.{leastOr}
 use Rattle.model.specs.Lent.{on, rowsOf, Inside, Front}
 use Rattle.model.specs.RowLaws.{by, In, here, there, nowhere, in-cases, keep-in, keep-ext, Filtered, filtered-self, in-span, length-span, table-length, table-at}
@@ -105,45 +105,46 @@ module _ {key : ℕ → ℕ} {rows : List ℕ} where
       pub higher-on : high < k → Higher key rows (i + 1) k
       higher-on h = record { at = along-next (s .at) l (λ rest. omega arith) }
 
--- ---- a loop that packs the rows that pass a test into the front of other room, n of them so far
-pub record Pack (test : ℕ → Bool) (rows : List ℕ) (i n : ℕ) (out : List ℕ) : Type 0 where
+-- ---- a loop that packs the rows that pass a test into the front of room that is lent, n of them so far
+pub record Pack (test : ℕ → Bool) (rows out₀ : List ℕ) (i n : ℕ) (out : List ℕ) : Type 0 where
   pub at : Along (keep test rows) (λ rest. take n out ++ keep test rest) rows i
   pub few : n ≤ i
-  pub room : length rows ≤ length out
+  pub room : length rows ≤ length out₀
+  pub long : length out ≡ length out₀
 
-module _ {test : ℕ → Bool} {rows : List ℕ} where
-  pub pack : {out : List ℕ} → length rows ≤ length out → Pack test rows 0 0 out
-  pack l = record { at = along refl; few = zero-le; room = l }
+module _ {test : ℕ → Bool} {rows out₀ : List ℕ} where
+  pub pack : length rows ≤ length out₀ → Pack test rows out₀ 0 0 out₀
+  pack l = record { at = along refl; few = zero-le; room = l; long = refl }
 
-  module _ {i n : ℕ} {out : List ℕ} (s : Pack test rows i n out) where
+  module _ {i n : ℕ} {out : List ℕ} (s : Pack test rows out₀ i n out) where
     pub pack-end : length rows ≤ i → Front n out (keep test rows)
-    pack-end l = record { few = omega (arith, s .at .within, s .few, s .room); are = sym (along-end (s .at) l ∙ append-nil (take n out)) }
+    pack-end l = record { few = omega (arith, s .at .within, s .few, s .room, s .long); are = sym (along-end (s .at) l ∙ append-nil (take n out)) }
 
     pub pack-room : i < length rows → n < length out
-    pack-room l = omega (arith, s .few, s .room)
+    pack-room l = omega (arith, s .few, s .room, s .long)
 
     module _ {b : Bool} (l : i < length rows) (e : b ≡ test (column rows i)) where
-      pub pack-off : b ≡ false → Pack test rows (i + 1) n out
-      pack-off h = record { at = along-next (s .at) l (λ rest. rw (sym e ∙ h)); few = omega (arith, s .few); room = s .room }
+      pub pack-off : b ≡ false → Pack test rows out₀ (i + 1) n out
+      pack-off h = record { at = along-next (s .at) l (λ rest. rw (sym e ∙ h)); few = omega (arith, s .few); room = s .room; long = s .long }
 
-      pub pack-on : {v : ℕ} → b ≡ true → v ≡ column rows i → Pack test rows (i + 1) (n + 1) (set out n v)
+      pub pack-on : {v : ℕ} → b ≡ true → v ≡ column rows i → Pack test rows out₀ (i + 1) (n + 1) (set out n v)
       pack-on {v} h k = record {
         at = along-next (s .at) l (λ rest.
             (rw (sym e ∙ h, ← k) (sym (append-snoc (take n out) v (keep test rest))))
             ∙ ap (λ (front : List ℕ). front ++ keep test rest) (sym (take-next out n v (pack-room l))));
         few = omega (arith, s .few);
-        room = omega (arith, s .room, length-set out n v);
+        room = s .room;
+        long = length-set out n v ∙ s .long;
       }
 
 -- ---- the same in place
 pub record Squeeze (test : ℕ → Bool) (rows₀ : List ℕ) (i n : ℕ) (rows : List ℕ) : Type 0 where
-  pub at : Pack test rows₀ i n rows
-  pub long : length rows ≡ length rows₀
+  pub at : Pack test rows₀ rows₀ i n rows
   pub ahead : drop i rows ≡ drop i rows₀
 
 module _ {test : ℕ → Bool} {rows₀ : List ℕ} where
   pub squeeze : Squeeze test rows₀ 0 0 rows₀
-  squeeze = record { at = pack (le-refl (length rows₀)); long = refl; ahead = refl }
+  squeeze = record { at = pack (le-refl (length rows₀)); ahead = refl }
 
   module _ {i n : ℕ} {rows : List ℕ} (s : Squeeze test rows₀ i n rows) where
     pub squeeze-end : length rows₀ ≤ i → Front n rows (keep test rows₀)
@@ -161,12 +162,11 @@ module _ {test : ℕ → Bool} {rows₀ : List ℕ} where
 
     module _ {b : Bool} (l : i < length rows₀) (e : b ≡ test (column rows i)) where
       pub squeeze-off : b ≡ false → Squeeze test rows₀ (i + 1) n rows
-      squeeze-off h = record { at = pack-off (s .at) l (e ∙ ap test squeeze-here) h; long = s .long; ahead = squeeze-ahead }
+      squeeze-off h = record { at = pack-off (s .at) l (e ∙ ap test squeeze-here) h; ahead = squeeze-ahead }
 
       pub squeeze-on : {v : ℕ} → b ≡ true → v ≡ column rows i → Squeeze test rows₀ (i + 1) (n + 1) (set rows n v)
       squeeze-on {v} h k = record {
         at = pack-on (s .at) l (e ∙ ap test squeeze-here) h (k ∙ squeeze-here);
-        long = length-set rows n v ∙ s .long;
         ahead = drop-set-lt (i + 1) rows n v (omega (arith, s .at .few)) ∙ squeeze-ahead;
       }
 
@@ -225,6 +225,9 @@ module _ {rows : List ℕ} {flags₀ : List Bool} where
         (λ q m. sym (along-end (s .at q) l ∙ or-false (on flags q)) ∙ sym (table-at f false (length flags₀) q (omega (arith, s .long))))
 
 -- ---- every row, listed
+pub span-at : (n i : ℕ) → i < n → column (span 0 n) i ≡ i
+span-at n i l = rw (← map-id (span 0 n)) (table-at (λ k. k) 0 n i l)
+
 pub all-listed : {n : ℕ} {xs₀ xs : List ℕ} {i : ℕ} → Stored 0 (λ k. k) n xs₀ i xs → n ≤ i → xs ≡ span 0 n
 all-listed {n} s l = stored-end s l ∙ map-id (span 0 n)
 
@@ -243,6 +246,12 @@ inside-in {n} {q} (p ∷ rows) h m =
 pub inside-keep : {n : ℕ} (test : ℕ → Bool) (rows : List ℕ) → Inside n rows → Inside n (keep test rows)
 inside-keep test rows h = record { below = λ i l. inside-in rows h (keep-in test rows (in-at (keep test rows) i l) .0) }
 
+pub inside-least : {n : ℕ} (key : ℕ → ℕ) (rows : List ℕ) → Inside n rows → Inside n (keepLeast key rows)
+inside-least key rows h = inside-keep (λ q. eqb (key q) (least key rows)) rows h
+
+pub inside-greatest : {n : ℕ} (key : ℕ → ℕ) (rows : List ℕ) → Inside n rows → Inside n (keepGreatest key rows)
+inside-greatest key rows h = inside-keep (λ q. eqb (key q) (greatest key rows)) rows h
+
 pub inside-span : (n : ℕ) → Inside n (span 0 n)
 inside-span n = record { below = λ i l. omega (arith, in-span 0 n (in-at (span 0 n) i l)) }
 
@@ -255,6 +264,13 @@ inside-long h e = record { below = λ i l. omega (arith, h .below i l) }
 -- all of it
 pub front-all : (rows : List ℕ) → Front (length rows) rows rows
 front-all rows = record { few = le-refl (length rows); are = take-length rows }
+
+-- it is as long as it says, and its rows are inside where those that it holds are
+pub front-long : {n : ℕ} {list rows : List ℕ} → Front n list rows → n ≡ length (take n list)
+front-long {n} {list} f = sym (length-take-le n list (f .few))
+
+pub front-inside : {k n : ℕ} {list rows : List ℕ} → Front n list rows → Inside k rows → Inside k (take n list)
+front-inside {k} f h = subst (Inside k) (sym (f .are)) h
 
 -- what a step leaves of the front that is lent to it is the front of the whole list
 pub front-next : (step : List ℕ → List ℕ) {n m : ℕ} {list lent rows : List ℕ}

@@ -35,7 +35,7 @@ module _ (key key′ : ℕ → ℕ) where
   least-ext (q ∷ []) f = f q (here refl)
   least-ext (q ∷ p ∷ rows) f = ap₂ min (f q (here refl)) (least-ext (p ∷ rows) (λ z m. f z (there m)))
 
-  pub keepLeast-ext : (rows : List ℕ) → ((q : ℕ) → In q rows → key q ≡ key′ q) → keepLeast key rows ≡ keepLeast key′ rows
+  keepLeast-ext : (rows : List ℕ) → ((q : ℕ) → In q rows → key q ≡ key′ q) → keepLeast key rows ≡ keepLeast key′ rows
   keepLeast-ext rows f =
       keep-ext (λ q. eqb (key q) (least key rows)) (λ q. eqb (key′ q) (least key′ rows)) rows
       (λ q m. ap₂ eqb (f q m) (least-ext rows f))

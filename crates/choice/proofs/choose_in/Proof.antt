@@ -1,86 +1,116 @@
--- `choice::choose_in` meets its contract. The eight steps, each by what its function ensures. Assumes nothing.
-use Prim.Native.Nat.{ℕ}
-use native.Mathlib.Omega.{arith}
-use mathlib.Core.Path.{_≡_, ap, _∙_}
-use mathlib.Core.List.{List}
-use lib.ListN.{length, getD}
-use denote.Ref.{now}
 use borrow.Author.Needs.{needs}
-use Rattle.model.specs.Decision.{Mesh, none, preferred, unbeaten, ownIfAny, nearest}
-use Rattle.model.specs.Stability.{available}
-use Rattle.model.specs.Columns.{Columns, columns, lentMesh, choiceOf}
 use Rattle.choice.proofs.choose_in.Statement.{statement}
 use Rattle.choice.proofs.choose_in.Tie as tie
+use Rattle.choice.proofs.choose_in.Reads as reads
+use Rattle.choice.proofs.choose_in.Lts as lts
+use Rattle.choice.proofs.available.Reads as available-reads
+use Rattle.choice.proofs.nearest.Reads as nearest-reads
+use Rattle.choice.proofs.own_if_any.Reads as own-if-any-reads
+use Rattle.choice.proofs.preferred.Reads as preferred-reads
+use Rattle.choice.proofs.unbeaten.Reads as unbeaten-reads
+use Rattle.rows.proofs.first.Reads as first-reads
 
-module _ (routers : ℕ) (ids distances : List ℕ) (t : Columns) (held : List ℕ) (r : ℕ) where
-  abbrev M : Mesh
-  M = lentMesh routers ids distances t
-
-  steps : {a p u o n : List ℕ} {row : ℕ}
-      → a ≡ available M held r → p ≡ preferred M a → u ≡ unbeaten M p → o ≡ ownIfAny M r u → n ≡ nearest M r o → row ≡ getD n 0 none
-      → row ≡ choiceOf routers ids distances t held r
-  steps a p u o n f =
-      f ∙ ap (λ (rows : List ℕ). getD rows 0 none) (n ∙ ap (nearest M r) (o ∙ ap (ownIfAny M r) (u ∙ ap (unbeaten M) (p ∙ ap (preferred M) a))))
-
--- places, each by the one after it
-abbrev start-of : tie.After-available → tie.Start
-start-of c = search needs
-
-abbrev available-of : tie.After-preferred → tie.After-available
-available-of c = search needs
-
-abbrev preferred-of : tie.After-unbeaten → tie.After-preferred
-preferred-of c = search needs
-
-abbrev unbeaten-of : tie.After-own-if-any → tie.After-unbeaten
-unbeaten-of c = search needs
-
-abbrev own-of : tie.After-nearest → tie.After-own-if-any
-own-of c = search needs
-
+-- src/lib.rt:250:9
 available-requires : tie.Need-available-requires
-available-requires c κs = let start : tie.Start = search needs in (start .pre .1 .2, start .pre .0 .fits .owned)
+available-requires c κs = search needs
 
+-- src/lib.rt:251:52
+slice-relend-prefix-preferred : tie.Need-slice-relend-prefix-preferred
+slice-relend-prefix-preferred c = search needs
+
+-- src/lib.rt:251:52
+slice-aggregate-preferred : tie.Need-slice-aggregate-preferred
+slice-aggregate-preferred c = ?
+
+-- src/lib.rt:251:9
 preferred-requires : tie.Need-preferred-requires
-preferred-requires c κs = search needs
+preferred-requires c κs = ?
 
+-- src/lib.rt:252:35
+slice-reshare-prefix-unbeaten : tie.Need-slice-reshare-prefix-unbeaten
+slice-reshare-prefix-unbeaten c = ?
+
+-- src/lib.rt:252:35
+slice-aggregate-unbeaten : tie.Need-slice-aggregate-unbeaten
+slice-aggregate-unbeaten c = ?
+
+-- src/lib.rt:252:9
 unbeaten-requires : tie.Need-unbeaten-requires
-unbeaten-requires c κs = search needs
+unbeaten-requires c κs = ?
 
+-- src/lib.rt:253:37
+slice-relend-prefix-own-if-any : tie.Need-slice-relend-prefix-own-if-any
+slice-relend-prefix-own-if-any c = search needs
+
+-- src/lib.rt:253:37
+slice-aggregate-own-if-any : tie.Need-slice-aggregate-own-if-any
+slice-aggregate-own-if-any c = ?
+
+-- src/lib.rt:253:9
 own-if-any-requires : tie.Need-own-if-any-requires
-own-if-any-requires c κs = search needs
+own-if-any-requires c κs = ?
 
+-- src/lib.rt:254:67
+slice-relend-prefix-nearest : tie.Need-slice-relend-prefix-nearest
+slice-relend-prefix-nearest c = ?
+
+-- src/lib.rt:254:67
+slice-aggregate-nearest : tie.Need-slice-aggregate-nearest
+slice-aggregate-nearest c = ?
+
+-- src/lib.rt:254:9
 nearest-requires : tie.Need-nearest-requires
-nearest-requires c κs =
-    let own : tie.After-own-if-any = search needs in
-    let free = unbeaten-of own in
-    let start = start-of (available-of (preferred-of free)) in
-    let placed = start .pre .0 in
-    let long = own .own-if-any .kept .1 .1 .0 ∙ free .unbeaten .kept .1 .1 .1 .0 ∙ start .pre .1 .3 in (
-      (omega arith, omega arith, omega arith, omega arith),
-      (placed .distances-long, omega arith, λ q l. let o = placed .fits .owned q (omega arith) in (omega arith, omega arith)),
-    )
+nearest-requires c κs = ?
 
+-- src/lib.rt:256:26
+slice-reshare-prefix-first : tie.Need-slice-reshare-prefix-first
+slice-reshare-prefix-first c = ?
+
+-- src/lib.rt:256:26
+slice-aggregate-first : tie.Need-slice-aggregate-first
+slice-aggregate-first c = ?
+
+-- src/lib.rt:256:14
 first-requires : tie.Need-first-requires
-first-requires c κs =
-    let near : tie.After-nearest = search needs in
-    let own = own-of near in
-    let free = unbeaten-of own in
-    let start = start-of (available-of (preferred-of free)) in
-    let long = near .nearest .kept .1 .1 .1 .1 .1 .1 .1 .0 ∙ own .own-if-any .kept .1 .1 .0 ∙ free .unbeaten .kept .1 .1 .1 .0 ∙ start .pre .1 .3 in
-    omega arith
+first-requires c κs = search needs
 
+-- src/lib.rt:229:1
+same-length : tie.Need-same-length
+same-length c = search needs
+
+-- src/lib.rt:229:1
+same-length-2 : tie.Need-same-length-2
+same-length-2 c = search needs
+
+-- src/lib.rt:229:1
+same-length-3 : tie.Need-same-length-3
+same-length-3 c = search needs
+
+-- src/lib.rt:229:1
 returns : tie.Need-returns
-returns c =
-    let near : tie.After-nearest = search needs in
-    let own = own-of near in
-    let free = unbeaten-of own in
-    let pref = preferred-of free in
-    let avail = available-of pref in
-    let a = start-of avail .args in
-    steps (length (now (a .held))) (now (a .ids)) (now (a .distances)) (columns (now (a .router)) (now (a .asn)) (now (a .preference)) (now (a .path)) (now (a .origin)) (now (a .med)) (now (a .nid)) (now (a .peer))) (now (a .held)) (a .r)
-    (avail .available .ensures) (pref .preferred .ensures) (free .unbeaten .ensures) (own .own-if-any .ensures) (near .nearest .ensures) (c .first .ensures)
+returns c = ?
 
 pub choose-in-spec : {M : Type 1} → statement M
 choose-in-spec =
-    tie.close (tie.spec available-requires preferred-requires unbeaten-requires own-if-any-requires nearest-requires first-requires (λ c. search needs) (λ c. search needs) (λ c. search needs) returns)
+    tie.close
+    (tie.spec
+    available-requires
+    slice-relend-prefix-preferred
+    slice-aggregate-preferred
+    preferred-requires
+    slice-reshare-prefix-unbeaten
+    slice-aggregate-unbeaten
+    unbeaten-requires
+    slice-relend-prefix-own-if-any
+    slice-aggregate-own-if-any
+    own-if-any-requires
+    slice-relend-prefix-nearest
+    slice-aggregate-nearest
+    nearest-requires
+    slice-reshare-prefix-first
+    slice-aggregate-first
+    first-requires
+    same-length
+    same-length-2
+    same-length-3
+    returns)

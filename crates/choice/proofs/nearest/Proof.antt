@@ -1,37 +1,63 @@
--- `choice::nearest` meets its contract. Three steps. Assumes nothing.
-use native.Mathlib.Omega.{arith}
-use mathlib.Core.Path.{ap, _∙_}
-use mathlib.Core.Bool.{cond}
-use lib.Dec.{eqb}
-use denote.Ref.{now}
 use borrow.Author.Needs.{needs}
-use Rattle.model.specs.Rows.{column, keepLeast}
 use Rattle.choice.proofs.nearest.Statement.{statement}
 use Rattle.choice.proofs.nearest.Tie as tie
+use Rattle.choice.proofs.nearest.Reads as reads
+use Rattle.choice.proofs.nearest.Lts as lts
+use Rattle.choice.proofs.lowest_distance.Reads as lowest-distance-reads
+use Rattle.choice.proofs.lowest_id.Reads as lowest-id-reads
+use Rattle.choice.proofs.lowest_peer.Reads as lowest-peer-reads
 
+-- src/lib.rt:223:9
 lowest-distance-requires : tie.Need-lowest-distance-requires
-lowest-distance-requires c κs =
-    let start : tie.Start = search needs in
-    (search needs, search needs, λ q l. start .pre .1 .2 q l .0, search needs, search needs)
+lowest-distance-requires c κs = ?
 
+-- src/lib.rt:224:51
+slice-relend-prefix-lowest-id : tie.Need-slice-relend-prefix-lowest-id
+slice-relend-prefix-lowest-id c = search needs
+
+-- src/lib.rt:224:51
+slice-aggregate-lowest-id : tie.Need-slice-aggregate-lowest-id
+slice-aggregate-lowest-id c = ?
+
+-- src/lib.rt:224:9
 lowest-id-requires : tie.Need-lowest-id-requires
-lowest-id-requires c κs =
-    let start : tie.Start = search needs in
-    let far : tie.After-lowest-distance = search needs in
-    let kept = far .lowest-distance .kept .1 .1 .1 in
-    (search needs, search needs, search needs, λ q l. start .pre .1 .2 q (omega (arith, kept .1 .0)) .1)
+lowest-id-requires c κs = ?
 
+-- src/lib.rt:225:23
+slice-relend-prefix-lowest-peer : tie.Need-slice-relend-prefix-lowest-peer
+slice-relend-prefix-lowest-peer c = ?
+
+-- src/lib.rt:225:23
+slice-aggregate-lowest-peer : tie.Need-slice-aggregate-lowest-peer
+slice-aggregate-lowest-peer c = ?
+
+-- src/lib.rt:225:5
+lowest-peer-requires : tie.Need-lowest-peer-requires
+lowest-peer-requires c κs = ?
+
+-- src/lib.rt:209:1
+same-length : tie.Need-same-length
+same-length c = search needs
+
+-- src/lib.rt:209:1
+same-length-2 : tie.Need-same-length-2
+same-length-2 c = search needs
+
+-- src/lib.rt:209:1
 returns : tie.Need-returns
-returns c =
-    let peer : tie.After-lowest-peer = search needs in
-    let id : tie.After-lowest-id = search needs in
-    let far : tie.After-lowest-distance = search needs in
-    let start : tie.Start = search needs in
-    let a = start .args in
-    peer .lowest-peer .ensures
-    ∙ ap (keepLeast (column (now (a .peer)))) (id .lowest-id .ensures
-    ∙ ap (keepLeast (λ q. cond (eqb (column (now (a .router)) q) (a .r)) (column (now (a .nid)) q) (column (now (a .ids)) (column (now (a .router)) q)))) (far .lowest-distance .ensures))
+returns c = ?
 
 pub nearest-spec : {M : Type 1} → statement M
 nearest-spec =
-    tie.close (tie.spec lowest-distance-requires lowest-id-requires (λ c κs. search needs) (λ c. search needs) (λ c. search needs) returns)
+    tie.close
+    (tie.spec
+    lowest-distance-requires
+    slice-relend-prefix-lowest-id
+    slice-aggregate-lowest-id
+    lowest-id-requires
+    slice-relend-prefix-lowest-peer
+    slice-aggregate-lowest-peer
+    lowest-peer-requires
+    same-length
+    same-length-2
+    returns)
