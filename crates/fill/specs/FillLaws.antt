@@ -13,7 +13,7 @@ use borrow.Author.Tests.{le-leb, eq-eqb, ltb-true, ltb-false}
 use Rattle.wire.specs.Numbers.{numberAt}
 use Rattle.wire.specs.NumbersLaws.{number-drop}
 use Rattle.model.specs.Rows.{table}
-use Rattle.model.specs.LoopLaws.{table-length, table-at, table-same}
+use Rattle.model.specs.RowLaws.{table-length, table-at, table-same}
 use Rattle.model.specs.Decision.{Route}
 use Rattle.snapshot.specs.Limits.{mostRouters, stride, mostRoutes, mostBits, farthest}
 use Rattle.snapshot.specs.Ranges.{distanceTests, prefixTests}

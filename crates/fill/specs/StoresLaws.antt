@@ -13,7 +13,8 @@ use lib.Dec.{leb, ltb, eqb}
 use borrow.Author.Tests.{lt-ltb, le-ltb, lt-leb, le-leb, leb-true}
 use Rattle.wire.specs.Numbers.{numberAt}
 use Rattle.model.specs.Rows.{table, span}
-use Rattle.model.specs.LoopLaws.{both, Stored, stored, stored-next, stored-skip, table-length, table-at}
+use Rattle.model.specs.RowLaws.{both, table-length, table-at}
+use Rattle.model.specs.LoopLaws.{Stored, stored, stored-next, stored-skip}
 use Rattle.model.specs.Decision.{Route}
 use Rattle.snapshot.specs.Limits.{stride, mostRoutes}
 use Rattle.snapshot.specs.Records.{prefixForm, routeForm, valuesAt}

@@ -10,7 +10,7 @@ ghost use Rattle.model.specs.Decision.{beatsBy, unbeatenBy};
 ghost use Rattle.model.specs.Contest.{leastOr};
 ghost use Rattle.model.specs.Lent.{was, is, col, on, rowsOf};
 ghost use Rattle.model.specs.Columns.{mostRows};
-ghost use Rattle.model.specs.Arrangement.{alikeBy, groupBy};
+ghost use Rattle.model.specs.Listing.{alikeBy, groupBy};
 
 // Whether p has what q has in two columns.
 fn alike(a: &[u32], b: &[u32], p: usize, q: usize) -> bool

@@ -1,9 +1,9 @@
 -- Sums on paper: the cases P1 to P11, and more that separate what those leave alike, each with its early and its late rows.
-use Prim.Native.Nat.{ℕ, zero, _+_, _*_}
+use Prim.Native.Nat.{ℕ}
 use mathlib.Core.Bool.{cond}
 use mathlib.Core.List.{List, [], _∷_}
 use lib.Dec.{eqb}
-use lib.ListN.{getD, length}
+use lib.ListN.{getD}
 use Rattle.model.specs.Decision.{Route, Mesh, meshOf, none}
 
 -- a case: a prefix, and the rows that its routers hold early and late

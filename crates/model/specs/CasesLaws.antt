@@ -1,13 +1,13 @@
 -- The table of cases is computed once: the rows of every case are those that rounds lead to, and every case is sound.
 use Prim.Native.Nat.{ℕ}
-use mathlib.Core.Path.{_≡_, refl, sym, ap₂, subst}
+use mathlib.Core.Path.{_≡_, refl, ap₂}
 use mathlib.Core.Bool.{Bool, true, false, _&&_}
 use mathlib.Core.List.{List, [], _∷_}
 use lib.Dec.{T, eqb, eqb→eq}
 use Rattle.model.specs.RowLaws.{and-left, and-right}
 use Rattle.model.specs.Contest.{early, late}
 use Rattle.model.specs.Cases.{Case, Every, cases}
-use Rattle.model.specs.SoundLaws.{soundTest, every, every-at}
+use Rattle.model.specs.SoundLaws.{soundTest, every}
 
 -- the same numbers in the same order
 abbrev same : List ℕ → List ℕ → Bool

@@ -2,12 +2,12 @@
 -- Theorems.antt: they say of what is computed here that it is early and late by the definitions of Stability.antt.
 use Prim.Native.Nat.{ℕ, zero, suc, min}
 use mathlib.Core.Path.{_≡_}
-use mathlib.Core.Bool.{Bool, false, _&&_, not}
+use mathlib.Core.Bool.{Bool, _&&_, not}
 use mathlib.Core.List.{List, [], _∷_}
 use lib.Dec.{eqb, leb}
 use lib.ListN.{length, getD}
-use Rattle.model.specs.Rows.{keep, some, count, span, table, column}
-use Rattle.model.specs.Decision.{Mesh, none, all, ownOf, beats, beatsBy, unbeatenBy, metric, preferred, choice}
+use Rattle.model.specs.Rows.{keep, some, count, table}
+use Rattle.model.specs.Decision.{Mesh, none, all, beats, beatsBy, unbeatenBy, metric, preferred, choice}
 use Rattle.model.specs.Stability.{available, contenders, beforeBy, standing}
 
 -- the least key among the members, or `past` where that is less or there is none

@@ -1,21 +1,20 @@
 -- The order theory of a fair contest. `refine` is monotone, its fixed points are the calm states, and all of them lie between two
--- of them, `earliest` and `latest`. Where the owners move one at a time from the bottom, in any sequence, none ever falls back, few
--- moves change anything, and a state that comes to rest is `earliest`. The theorems stand at the end of the file.
-use Prim.Native.Nat.{ℕ, zero, suc, _+_, _-_, _<_, _≤_}
+-- of them, `earliest` and `latest`. The theorems stand at the end of the file.
+use Prim.Native.Nat.{ℕ, zero, suc, _-_, _<_, _≤_}
 use mathlib.Core.Path.{_≡_, refl, sym, ap, _∙_, subst, fun-ext}
-use mathlib.Core.Logic.{_⊎_, inl, inr, ⊎-elim, _↔_}
+use mathlib.Core.Logic.{_⊎_, inl, inr, ⊎-elim}
 use mathlib.Core.Bool.{Bool, _&&_, not}
-use mathlib.Core.List.{List, [], _∷_, _++_, map}
+use mathlib.Core.List.{List}
 use native.Mathlib.Nat.{eq-or-lt-of-le}
-use native.Mathlib.Decide.{ℕ-discrete}
 use native.Mathlib.Omega.{arith}
 use lib.Dec.{eqb, leb, T, T-not, not-T, eqb→eq, eqb-refl, leb→le, le→leb}
-use lib.ListN.{length, getD, length-set, List·getD-eq-default}
-use lib.Seq.{ext-getD, getD-set-same, getD-set-other}
+use lib.ListN.{length, getD}
 use Rattle.model.specs.Rows.{keep, some, table}
-use Rattle.model.specs.RowLaws.{decide, le-or-lt, and-both, and-left, and-right, eq→eqb, In, Some, picks-least, here, there, nowhere, in-cases, in-keep, keep-in, some-in, in-some, table-length, table-at, tallies}
-use Rattle.model.specs.RowLaws.{_⊑_, ⊑-antisym, table-⊑, total, total-mono, total-eq, total-step}
-use Rattle.model.specs.Contest.{Contest, leastOr, end, passed, heldItems, firstFree, refine, calm, repeat, bottom, top, earliest, latest}
+use Rattle.model.specs.NumberLaws.{le-or-lt}
+use Rattle.model.specs.RowLaws.{decide, and-both, and-left, and-right, eq→eqb, In, Some, in-keep, keep-in, some-in, in-some, table-length, table-at, tallies}
+use Rattle.model.specs.RowLaws.{_⊑_, table-⊑, total, total-mono, total-eq}
+use Rattle.model.specs.LeastLaws.{leastOr-past, leastOr-le, le-leastOr}
+use Rattle.model.specs.Contest.{Contest, end, passed, heldItems, firstFree, refine, calm, repeat, bottom, top, earliest, latest}
 
 -- what the theorems ask of a contest
 pub record Fair (C : Contest) : Type 0 where
@@ -23,33 +22,6 @@ pub record Fair (C : Contest) : Type 0 where
   pub beats-trans : (a b c : ℕ) → In a (C .items) → In b (C .items) → In c (C .items) → T (C .beats a b) → T (C .beats b c) → T (C .beats a c)
   pub metric : ℕ → ℕ
   pub grows : (p q : ℕ) → In p (C .items) → In q (C .items) → T (C .beats p q) → metric p < metric q
-
--- ---- the least key, or `past`
-
-module _ (past : ℕ) (key : ℕ → ℕ) where
-  pub leastOr-past : (rows : List ℕ) → leastOr past key rows ≤ past
-  leastOr-past [] = omega arith
-  leastOr-past (q ∷ rows) = omega (arith, leastOr-past rows)
-
-  pub leastOr-le : {q : ℕ} (rows : List ℕ) → In q rows → leastOr past key rows ≤ key q
-  leastOr-le [] m = absurd (nowhere m)
-  leastOr-le {q} (p ∷ rows) m = elim (in-cases m) [
-    | inl e ↦ (let k = ap key e in omega arith)
-    | inr n ↦ (let h = leastOr-le rows n in omega arith)
-  ]
-
-  pub le-leastOr : {n : ℕ} (rows : List ℕ) → n ≤ past → ((q : ℕ) → In q rows → n ≤ key q) → n ≤ leastOr past key rows
-  le-leastOr [] low h = low
-  le-leastOr (p ∷ rows) low h = omega (arith, h p (here refl), le-leastOr rows low (λ q m. h q (there m)))
-
-  pub leastOr-at : {h : ℕ} (rows : List ℕ) → In h rows → key h ≤ past → ((q : ℕ) → In q rows → key h ≤ key q) → leastOr past key rows ≡ key h
-  leastOr-at rows m k f = omega (arith, leastOr-le rows m, le-leastOr rows k f)
-
-  pub leastOr-some : {q : ℕ} (rows : List ℕ) → In q rows → ((q : ℕ) → In q rows → key q ≤ past) → Some (λ p. leastOr past key rows ≡ key p) rows
-  leastOr-some rows m f =
-      let w = picks-least key .any rows m in
-      let n = picks-least key .from rows (w .member) in
-      record { row = w .row; member = n; passes = leastOr-at rows n (f (w .row) n) (λ p k. picks-least key .best rows (w .member) k) }
 
 module _ (C : Contest) where
   -- ---- a state's passed and held items
@@ -158,7 +130,7 @@ module _ (C : Contest) where
 
   -- ---- rounds of refine
 
-  stays : (n : ℕ) (x : List ℕ) → x ≡ refine C x → repeat C n x ≡ x
+  pub stays : (n : ℕ) (x : List ℕ) → x ≡ refine C x → repeat C n x ≡ x
   stays zero x e = refl
   stays (suc n) x e = ap (repeat C n) (sym e) ∙ stays n x e
 
@@ -183,9 +155,6 @@ module _ (C : Contest) where
 
   bottom-rising : Rising (bottom C)
   bottom-rising = record { size = table-length (C .owners) (λ r. 0); up = from-bottom (refine C (bottom C)) }
-
-  rising-total : (x : List ℕ) → Rising x → total x ≤ length (C .items)
-  rising-total x p = top-total x (λ i. omega (arith, p .up i, free-top (passed C x) i))
 
   earliest-rests : earliest C ≡ refine C (earliest C)
   earliest-rests = rests Rising (λ x. length (C .items) - total x) next less (length (C .items)) (bottom C) bottom-rising (omega arith)
@@ -226,9 +195,6 @@ module _ (C : Contest) where
   below (suc n) x y e h = below n (refine C x) y e (subst (λ (z : List ℕ). z ⊑ refine C x) (sym e) (refine-mono y x h))
 
   -- ---- calm states
-
-  pub calm-size : (x : List ℕ) → calm C x → length x ≡ C .owners
-  calm-size x e = ap length e ∙ table-length (C .owners) (firstFree C (heldItems C x))
 
   pub calm-at : (x : List ℕ) → calm C x → (r : ℕ) → r < C .owners → getD x r 0 ≡ firstFree C (heldItems C x) r
   calm-at x e r h = ap (λ (z : List ℕ). getD z r 0) e ∙ table-at (firstFree C (heldItems C x)) 0 (C .owners) r h
@@ -303,29 +269,12 @@ module _ (C : Contest) (F : Fair C) where
 
 -- ======== THE THEOREMS
 
--- of every contest
-
-module _ (C : Contest) where
-  pub monotone : (x y : List ℕ) → x ⊑ y → refine C x ⊑ refine C y
-  monotone = refine-mono C
-
-  pub earliest-fixed : earliest C ≡ refine C (earliest C)
-  earliest-fixed = earliest-rests C
-
-  pub latest-fixed : latest C ≡ refine C (latest C)
-  latest-fixed = latest-rests C
-
--- of a fair one
-
 module _ (C : Contest) (F : Fair C) where
-  pub fixed↔calm : (x : List ℕ) → (x ≡ refine C x) ↔ calm C x
-  fixed↔calm x = (fixed→calm C F x, calm→fixed C F x)
-
   pub earliest-calm : calm C (earliest C)
-  earliest-calm = fixed→calm C F (earliest C) (earliest-fixed C)
+  earliest-calm = fixed→calm C F (earliest C) (earliest-rests C)
 
   pub latest-calm : calm C (latest C)
-  latest-calm = fixed→calm C F (latest C) (latest-fixed C)
+  latest-calm = fixed→calm C F (latest C) (latest-rests C)
 
   pub earliest-first : (x : List ℕ) → calm C x → earliest C ⊑ x
   earliest-first x c = above C (length (C .items)) (bottom C) x (calm→fixed C F x c) (from-bottom C x)

@@ -1,5 +1,5 @@
 -- Laws of the decision process: what each step keeps, on which rows the first three agree, and that one row is left.
-use Prim.Native.Nat.{ℕ, zero, suc, _≤_, _<_}
+use Prim.Native.Nat.{ℕ, _≤_, _<_}
 use native.Mathlib.Nat.{le-trans}
 use native.Mathlib.Omega.{arith}
 use mathlib.Core.Path.{_≡_, sym, ap, subst, _∙_}
@@ -7,11 +7,11 @@ use mathlib.Core.Logic.{_⊎_, inl, inr}
 use mathlib.Core.Bool.{Bool, true, cond, not}
 use mathlib.Core.List.{List, [], _∷_}
 use lib.Dec.{T, eqb, ltb, eqb→eq, ltb→lt}
-use lib.ListN.{length}
-use Rattle.model.specs.Rows.{keep, some, least, keepLeast}
-use Rattle.model.specs.RowLaws.{In, Some, Picks, picks-least, picks-greatest, least-le, least-some, in-keep, keep-in, in-some, some-in, not-some, none-some}
-use Rattle.model.specs.RowLaws.{and-right, test-true, test-false, decide, eq→eqb, in-span, first-in, member-or-empty}
+use Rattle.model.specs.Rows.{keep, some, least}
+use Rattle.model.specs.RowLaws.{In, Some, in-keep, keep-in, in-some, some-in, not-some, none-some}
+use Rattle.model.specs.RowLaws.{and-left, and-right, test-true, test-false, decide, eq→eqb, in-span, first-in, member-or-empty}
 use Rattle.model.specs.RowLaws.{Filtered, filtered-keep, within, one-left}
+use Rattle.model.specs.LeastLaws.{Picks, picks-least, picks-greatest, least-le, least-some}
 use Rattle.model.specs.Stability.{Sound}
 use Rattle.model.specs.Decision.{Mesh, none, all, metric, beats, unbeaten, ownOf, ownIfAny, nearest, far, tieId, preferred, decided, choice}
 
@@ -61,6 +61,12 @@ module _ (M : Mesh) where
 
   -- ---- step 4
 
+  pub beats-is : (p q : ℕ) → T (beats M p q) → (M .asn p ≡ M .asn q) × (metric M p < metric M q)
+  beats-is p q t =
+      let asn = eqb (M .asn p) (M .asn q) in
+      let lower = ltb (metric M p) (metric M q) in
+      (eqb→eq (M .asn p) (M .asn q) (and-left asn lower t), ltb→lt (metric M p) (metric M q) (and-right asn lower t))
+
   pub picks-unbeaten : Picks (λ q p. T (beats M p q) → ⊥) (unbeaten M)
   picks-unbeaten = record {
     from = λ rows m. keep-in (test rows) rows m .0;
@@ -73,7 +79,7 @@ module _ (M : Mesh) where
       test rows q = not (some (λ p. beats M p q) rows)
 
       free : (rows : List ℕ) (w : Some (λ q. metric M q ≡ least (metric M) rows) rows) (p : ℕ) → In p rows → T (beats M p (w .row)) → ⊥
-      free rows w p n b = omega (arith, ltb→lt (metric M p) (metric M (w .row)) (and-right (eqb (M .asn p) (M .asn (w .row))) (ltb (metric M p) (metric M (w .row))) b), w .passes, least-le (metric M) rows n)
+      free rows w p n b = omega (arith, beats-is p (w .row) b .1, w .passes, least-le (metric M) rows n)
 
       low : (rows : List ℕ) → Some (λ q. metric M q ≡ least (metric M) rows) rows → Some (λ q. Unit {0}) (unbeaten M rows)
       low rows w = record { row = w .row; member = in-keep (test rows) rows (w .member) (not-some (λ z. beats M z (w .row)) rows (free rows w)); passes = tt }
@@ -244,10 +250,6 @@ module _ (M : Mesh) (sound : Sound M) where
       own (inl e) = subst (λ (l : List ℕ). Filtered l (all M)) (sym (e .1)) (filtered-keep (ownOf M r) fu)
       own (inr e) = subst (λ (l : List ℕ). Filtered l (all M)) (sym (e .1)) fu
 
-  pub choice-is : (r : ℕ) {h : ℕ} (rows : List ℕ) → ((q : ℕ) → In q rows → In q (all M)) → In h (decided M r rows) → choice M r rows ≡ h
-  choice-is r {h} rows sub m = last-one r (unbeaten M (preferred M rows))
-      (λ q n. sub q (picks-preferred M .from rows (picks-unbeaten M .from (preferred M rows) n))) (first-in (decided M r rows) none m) m
-
   -- none is chosen exactly where there is nothing to choose from
   pub choice-none : (r : ℕ) (rows : List ℕ) → ((q : ℕ) → In q rows → In q (all M)) → choice M r rows ≡ none → rows ≡ []
   choice-none r rows sub e = elim (member-or-empty rows) [
@@ -257,10 +259,3 @@ module _ (M : Mesh) (sound : Sound M) where
 
   pub none-choice : (r : ℕ) (rows : List ℕ) → rows ≡ [] → choice M r rows ≡ none
   none-choice r rows e = ap (choice M r) e
-
-  -- what is chosen is one of the rows
-  pub choice-in : (r : ℕ) (rows : List ℕ) → In (choice M r rows) rows ⊎ ((rows ≡ []) × (choice M r rows ≡ none))
-  choice-in r rows = elim (member-or-empty rows) [
-    | inl w ↦ inl (decided-in M r rows (choice-decided M r rows (w .member)))
-    | inr z ↦ inr (z, none-choice r rows z)
-  ]

@@ -3,23 +3,24 @@
 use Prim.Native.Nat.{ℕ, _≤_, _<_}
 use native.Mathlib.Nat.{le-of-eq}
 use native.Mathlib.Omega.{arith}
-use mathlib.Core.Path.{_≡_, refl, sym, ap, subst, _∙_, fun-ext}
+use mathlib.Core.Path.{_≡_, sym, ap, subst, _∙_, fun-ext}
 use mathlib.Core.Logic.{_⊎_, inl, inr}
 use mathlib.Core.Bool.{Bool, _&&_, not, and-comm}
-use mathlib.Core.List.{List, [], _∷_}
-use lib.Dec.{T, eqb, ltb, eqb→eq, eqb-refl, ltb→lt, lt→ltb}
+use mathlib.Core.List.{List, []}
+use lib.Dec.{T, eqb, ltb, eqb→eq, eqb-refl, lt→ltb}
 use lib.ListN.{length, getD}
 use borrow.Author.Tests.{eqb-true}
 use Rattle.model.specs.Rows.{keep, some, count, table}
 use Rattle.model.specs.RowLaws.{by, In, Some, in-keep, keep-in, keep-keep, some-kept, count-kept, and-left, and-right, and-both, not-some, none-some, eq→eqb}
 use Rattle.model.specs.RowLaws.{nowhere, member-or-empty, first-cases, count-length, table-at, table-length, table-same}
 use Rattle.model.specs.Decision.{Mesh, none, all, metric, beats, unbeaten, ownOf, preferred, decided, choice}
-use Rattle.model.specs.DecisionLaws.{owned, First, picks-preferred, picks-unbeaten, last-own, choice-decided, decided-in, not-none, not-past}
+use Rattle.model.specs.DecisionLaws.{beats-is, owned, First, picks-preferred, picks-unbeaten, last-own, choice-decided, decided-in, not-none, not-past}
 use Rattle.model.specs.Stability.{Sound, available, Stable, contenders, before, standing, standings, Between}
 use Rattle.model.specs.StabilityLaws.{preferred-all, contender-preferred, contender-own, contender-free, standing-in, standing-out, standing-end, standing-le, standing-one, standing-pin}
 use Rattle.model.specs.StabilityLaws.{available-all, available-cases, available-own, available-held, available-same, preferred-into, preferred-from, decided-free, decided-contender, anchor, held-contender}
 use Rattle.model.specs.Contest.{leastOr, end, heldItems, firstFree, calm, beatsOwnBy, contending, placeOf, contest, atPlace, holding, earliest, latest, early, late}
-use Rattle.model.specs.ContestLaws.{leastOr-at, leastOr-some, Fair, earliest-calm, latest-calm, earliest-first, latest-last}
+use Rattle.model.specs.LeastLaws.{leastOr-at, leastOr-some}
+use Rattle.model.specs.ContestLaws.{is-held, held-is, calm-at, Fair, earliest-calm, latest-calm, earliest-first, latest-last}
 
 module _ (M : Mesh) where
   -- ---- the items of the contest are the contenders
@@ -148,19 +149,14 @@ module _ (M : Mesh) (sound : Sound M) (held seen : List ℕ) (A : Announced M he
 -- ---- a state and the items that stand at its places
 
 module _ (M : Mesh) (x : List ℕ) where
-  abbrev isHeld : ℕ → Bool
-  isHeld q = eqb (placeOf M q) (getD x (M .router q) 0)
-
   pub in-held : {q : ℕ} → In q (contenders M (M .router q)) → standing M (M .router q) q ≡ getD x (M .router q) 0 → In q (heldItems (contest M) x)
-  in-held {q} m e = in-keep isHeld (contending M) (item M (M .router q) m) (eq→eqb (place-standing M (M .router q) m ∙ e))
+  in-held {q} m e = is-held (contest M) x q (item M (M .router q) m) (place-standing M (M .router q) m ∙ e)
 
   pub held-contends : {q : ℕ} → In q (heldItems (contest M) x) → In q (contenders M (M .router q))
-  held-contends m = item-contender M (keep-in isHeld (contending M) m .0)
+  held-contends {q} m = item-contender M (held-is (contest M) x q m .0)
 
   pub held-place : {q : ℕ} → In q (heldItems (contest M) x) → standing M (M .router q) q ≡ getD x (M .router q) 0
-  held-place {q} m =
-      sym (place-standing M (M .router q) (held-contends m))
-      ∙ eqb→eq (placeOf M q) (getD x (M .router q) 0) (keep-in isHeld (contending M) m .1)
+  held-place {q} m = sym (place-standing M (M .router q) (held-contends m)) ∙ held-is (contest M) x q m .1
 
 module _ (M : Mesh) (sound : Sound M) where
   -- ---- the standings of a stable assignment are calm
@@ -218,9 +214,6 @@ module _ (M : Mesh) (sound : Sound M) where
     placedRows = table (M .routers) (atPlace M x)
 
     module _ (c : calm (contest M) x) where
-      calm-at : (r : ℕ) → r < M .routers → getD x r 0 ≡ firstFree (contest M) (heldItems (contest M) x) r
-      calm-at r lt = ap (λ (l : List ℕ). getD l r 0) c ∙ table-at (firstFree (contest M) (heldItems (contest M) x)) 0 _ _ lt
-
       -- something is held where steps 1 to 3 leave anything
       calm-any : {s : ℕ} → In s (preferred M (all M)) → Some (λ p. Unit {0}) (heldItems (contest M) x)
       calm-any {s} m = go (member-or-empty (heldItems (contest M) x))
@@ -237,7 +230,7 @@ module _ (M : Mesh) (sound : Sound M) where
             row = w .row;
             passes = tt;
             member = in-held M x (subst (λ (o : ℕ). In (w .row) (contenders M o)) (sym own) contends)
-                (subst (λ (o : ℕ). standing M o (w .row) ≡ getD x o 0) (sym own) (sym (place-standing M r contends) ∙ sym (w .passes) ∙ sym (calm-at r (owned M sound (preferred-all M m)))));
+                (subst (λ (o : ℕ). standing M o (w .row) ≡ getD x o 0) (sym own) (sym (place-standing M r contends) ∙ sym (w .passes) ∙ sym (calm-at (contest M) x c r (owned M sound (preferred-all M m)))));
           }
             where
               k : Some (λ q. Unit {0}) (contenders M r)
@@ -271,11 +264,7 @@ module _ (M : Mesh) (sound : Sound M) where
       held-at r lt = table-at (λ r. choice M r (available M placedRows r)) none _ _ lt
 
       pub standing-at : (r : ℕ) → r < M .routers → standing M r (getD (holding M x) r none) ≡ getD x r 0
-      standing-at r lt = ap (standing M r) (held-at r lt) ∙ chosen-standing M sound placedRows (heldItems (contest M) x) calm-announced r ∙ sym (calm-at r lt)
-
-      pub calm-standings : standings M (holding M x) ≡ x
-      calm-standings = table-same (λ r. standing M r (getD (holding M x) r none)) (firstFree (contest M) (heldItems (contest M) x)) (M .routers)
-          (λ r lt. standing-at r lt ∙ calm-at r lt) ∙ sym c
+      standing-at r lt = ap (standing M r) (held-at r lt) ∙ chosen-standing M sound placedRows (heldItems (contest M) x) calm-announced r ∙ sym (calm-at (contest M) x c r lt)
 
       pub calm-stable : Stable M (holding M x)
       calm-stable = record {
@@ -319,12 +308,6 @@ module _ (M : Mesh) (sound : Sound M) where
 -- ---- the contest of a sound prefix is fair, so the two states that rounds lead to are such
 
 module _ (M : Mesh) where
-  beats-is : (p q : ℕ) → T (beats M p q) → (M .asn p ≡ M .asn q) × (metric M p < metric M q)
-  beats-is p q t =
-      let asn = eqb (M .asn p) (M .asn q) in
-      let lower = ltb (metric M p) (metric M q) in
-      (eqb→eq (M .asn p) (M .asn q) (and-left asn lower t), ltb→lt (metric M p) (metric M q) (and-right asn lower t))
-
   is-beats : (p q : ℕ) → M .asn p ≡ M .asn q → metric M p < metric M q → T (beats M p q)
   is-beats p q e l = and-both (eqb (M .asn p) (M .asn q)) (ltb (metric M p) (metric M q)) (eq→eqb e) (lt→ltb (metric M p) (metric M q) l)
 
@@ -332,11 +315,11 @@ module _ (M : Mesh) where
   fair sound = record {
     owned = λ q m. owned M sound (preferred-all M (contender-preferred M (M .router q) (item-contender M m)));
     beats-trans = λ a b c i j k s t.
-        let u = beats-is a b s in
-        let v = beats-is b c t in
+        let u = beats-is M a b s in
+        let v = beats-is M b c t in
         is-beats a c (u .0 ∙ v .0) (omega (arith, u .1, v .1));
     metric = metric M;
-    grows = λ p q i j t. beats-is p q t .1;
+    grows = λ p q i j t. beats-is M p q t .1;
   }
 
   pub early-late : Sound M → Between M (early M) (late M)

@@ -4,7 +4,9 @@ pub mod Stability
 pub mod Order
 pub mod Contest
 pub mod Cases
+pub mod NumberLaws
 pub mod RowLaws
+pub mod LeastLaws
 pub mod SoundLaws
 pub mod CasesLaws
 pub mod DecisionLaws
@@ -16,9 +18,9 @@ pub mod MeshLaws
 pub mod Theorems
 pub mod Lent
 pub mod Columns
-pub mod Arrangement
+pub mod Listing
 pub mod LoopLaws
 pub mod ListLaws
 pub mod ColumnLaws
-pub mod ArrangementLaws
+pub mod ListingLaws
 pub mod RoundLaws

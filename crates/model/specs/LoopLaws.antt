@@ -1,29 +1,22 @@
 -- Laws by which a loop over rows is proved. A loop goes from row 0 up, and its invariant speaks of the rows that are left,
 -- `rest i n`: the rows from i up to n. So a turn takes one row off the front, as the definitions of `Rows` do.
-use Prim.Native.Nat.{ℕ, zero, suc, _+_, _-_, _≤_, _<_, min, max, zero-le}
-use native.Mathlib.Nat.{sub-zero, not-suc-le-zero, le-refl}
+use Prim.Native.Nat.{ℕ, suc, _+_, _-_, _≤_, _<_, max, zero-le}
+use native.Mathlib.Nat.{sub-zero, not-suc-le-zero}
 use native.Mathlib.Numerals.{add-one}
 use native.Mathlib.Omega.{arith}
-use mathlib.Core.Path.{_≡_, refl, sym, ap, _∙_}
-use mathlib.Core.Bool.{Bool, true, false, cond, _&&_, _||_, not, and-true, and-false, false≢true, true≢false}
-use mathlib.Core.List.{List, [], _∷_, map}
-use lib.Dec.{eqb, ltb, leb}
-use lib.ListN.{length, getD, set, length-set, length-map}
+use mathlib.Core.Path.{_≡_, refl, sym, ap, _∙_, fun-ext}
+use mathlib.Core.Bool.{Bool, true, false, _&&_, not, and-true, and-false, true≢false}
+use mathlib.Core.List.{List, [], _∷_}
+use lib.Dec.{eqb, ltb}
+use lib.ListN.{length, getD, set, length-set}
 use lib.Seq.{getD-set-same, getD-set-other, ext-getD}
 use borrow.Author.Count.{below-more}
 use borrow.Author.Tests.{ltb-false, ltb-true, eqb-true, eqb-false}
-use Rattle.model.specs.Rows.{keep, some, count, span, least, greatest, keepLeast, table, column}
+use Rattle.model.specs.Rows.{keep, some, count, span, greatest, table, column}
+use Rattle.model.specs.RowLaws.{by, both, some-kept, count-kept, count-length, keep-keep, keep-all, keep-agree, in-span, table-length, table-at}
 use Rattle.model.specs.Contest.{leastOr}
+use Rattle.model.specs.LeastLaws.{leastOr-past, leastOr-lower}
 use Rattle.model.specs.Lent.{on, rowsOf}
-
--- by cases on a test, with its value
-pub by : {P : Type 0} (b : Bool) → (b ≡ true → P) → (b ≡ false → P) → P
-by true f g = f refl
-by false f g = g refl
-
-pub both : (a b : Bool) → (a && b) ≡ true → (a ≡ true) × (b ≡ true)
-both true b e = (refl, e)
-both false b e = absurd (false≢true e)
 
 -- the rows from i up to n
 abbrev pub rest : ℕ → ℕ → List ℕ
@@ -71,21 +64,18 @@ module _ {A : Type 0} {goal : A} {f : List ℕ → A} {test : ℕ → Bool} {n :
           let on : test i ≡ true = sym e ∙ h in
           (rw (rest-next i n l, on) at (w .left)) ∙ step (keep test (rest (i + 1) n))
 
--- ---- a test on kept rows is one test
-module _ (kept test : ℕ → Bool) where
-  pub some-keep : (rows : List ℕ) → some test (keep kept rows) ≡ some (λ q. true) (keep (λ q. kept q && test q) rows)
-  some-keep [] = refl
-  some-keep (q ∷ rows) =
-      let ih = some-keep rows in
-      by (kept q) (λ e. by (test q) (λ d. simp (e, d)) (λ d. simp (e, d, ih))) (λ e. simp (e, ih))
-
 -- ---- a search: no kept row before i passes
 pub record Seek (test : ℕ → Bool) (kept : List Bool) (i : ℕ) : Type 0 where
   pub at : Walk (some test (rowsOf kept)) (some (λ q. true)) (λ q. on kept q && test q) (length kept) i
 
 module _ {test : ℕ → Bool} {kept : List Bool} where
   pub seek : Seek test kept 0
-  seek = record { at = walk (some-keep (on kept) test (span 0 (length kept))) }
+  seek =
+      let rows = span 0 (length kept) in
+      let passes : ℕ → Bool = λ q. on kept q && test q in
+      let any : some (λ q. true) (keep passes rows) ≡ some passes rows =
+      some-kept passes (λ q. true) rows ∙ ap (λ (t : ℕ → Bool). some t rows) (fun-ext λ q. and-true (passes q)) in
+      record { at = walk (some-kept (on kept) test rows ∙ sym any) }
 
   module _ {i : ℕ} (s : Seek test kept i) where
     pub seek-end : length kept ≤ i → false ≡ some test (rowsOf kept)
@@ -97,24 +87,6 @@ module _ {test : ℕ → Bool} {kept : List Bool} where
 
       pub seek-hit : b ≡ true → true ≡ some test (rowsOf kept)
       seek-hit h = sym (walk-hit (s .at) l e h (λ rows. refl))
-
--- ---- tests on the rows below n
-module _ (t u : ℕ → Bool) where
-  keep-same-from : (from n : ℕ) → ((k : ℕ) → k < from + n → t k ≡ u k) → keep t (span from n) ≡ keep u (span from n)
-  keep-same-from from zero h = refl
-  keep-same-from from (suc n) h =
-      let e : t from ≡ u from = h from (omega arith) in
-      let ih = keep-same-from (suc from) n (λ k l. h k (omega arith)) in
-      simp (e, ih)
-
-  pub keep-same : (n : ℕ) → ((k : ℕ) → k < n → t k ≡ u k) → keep t (span 0 n) ≡ keep u (span 0 n)
-  keep-same n h = keep-same-from 0 n (λ k l. h k (omega arith))
-
-  pub keep-keep : (rows : List ℕ) → keep t (keep u rows) ≡ keep (λ q. u q && t q) rows
-  keep-keep [] = refl
-  keep-keep (q ∷ rows) =
-      let ih = keep-keep rows in
-      by (u q) (λ e. simp (e, ih)) (λ e. simp (e, ih))
 
 -- ---- a loop that stores f k at each k below n, and has done so below i
 pub record Stored {A : Type 0} (d : A) (f : ℕ → A) (n : ℕ) (xs₀ : List A) (i : ℕ) (xs : List A) : Type 0 where
@@ -166,7 +138,7 @@ module _ {test : ℕ → Bool} {kept out : List Bool} where
 
     pub sift-end : length kept ≤ i → rowsOf out ≡ keep test (rowsOf kept)
     sift-end l =
-        rw (s .long, keep-keep test (on kept) (span 0 (length kept)), keep-same (on out) (λ q. on kept q && test q) (length kept) (λ k m. s .done k (omega arith)))
+        rw (s .long, keep-keep test (on kept) (span 0 (length kept)), keep-agree (on out) (λ q. on kept q && test q) (span 0 (length kept)) (λ k m. s .done k (omega (arith, in-span 0 (length kept) m))))
 
 -- ---- the same where the test is that no other row beats the row: by a search for one that does, in the loop
 pub record Cull (beats : ℕ → ℕ → Bool) (others kept : List Bool) (i : ℕ) (out : List Bool) : Type 0 where
@@ -186,9 +158,6 @@ module _ {beats : ℕ → ℕ → Bool} {others kept out : List Bool} where
     pub cull-unbeaten : i < length kept → on kept i ≡ true → false ≡ some (λ p. beats p i) (rowsOf others) → Cull beats others kept (i + 1) (set out i true)
     cull-unbeaten l o e = record { at = sift-next (s .at) l (rw (← e, o)) }
 
-    pub cull-stays : i < length kept → false ≡ some (λ p. beats p i) (rowsOf others) → Cull beats others kept (i + 1) (set out i (on kept i))
-    cull-stays l e = record { at = sift-next (s .at) l (rw (← e) (sym (and-true (on kept i)))) }
-
     pub cull-end : length kept ≤ i → rowsOf out ≡ keep (λ q. not (some (λ p. beats p q) (rowsOf others))) (rowsOf kept)
     cull-end l = sift-end (s .at) l
 
@@ -204,27 +173,11 @@ module _ {test : ℕ → Bool} {kept₀ : List Bool} where
     pub sieve-next : {v : Bool} → i < length kept₀ → v ≡ (on kept i && test i) → Sieve test kept₀ (i + 1) (set kept i v)
     sieve-next l e = record { at = stored-next (s .at) l (rw (s .at .ahead i (omega arith)) at e) }
 
-    pub sieve-long : length kept ≡ length kept₀
-    sieve-long = s .at .long
-
     pub sieve-end : length kept₀ ≤ i → rowsOf kept ≡ keep test (rowsOf kept₀)
     sieve-end l =
-        rw (s .at .long, keep-keep test (on kept₀) (span 0 (length kept₀)), keep-same (on kept) (λ q. on kept₀ q && test q) (length kept₀) (λ k m. s .at .done k (omega arith)))
+        rw (s .at .long, keep-keep test (on kept₀) (span 0 (length kept₀)), keep-agree (on kept) (λ q. on kept₀ q && test q) (span 0 (length kept₀)) (λ k m. s .at .done k (omega (arith, in-span 0 (length kept₀) m))))
 
--- ---- the least key
-least-le : (past : ℕ) (key : ℕ → ℕ) (rows : List ℕ) → leastOr past key rows ≤ past
-least-le past key [] = le-refl past
-least-le past key (q ∷ rows) =
-    let ih = least-le past key rows in
-    omega arith
-
-pub least-past : (a past : ℕ) (key : ℕ → ℕ) (rows : List ℕ) → a ≤ past → min a (leastOr past key rows) ≡ leastOr a key rows
-least-past a past key [] l = omega arith
-least-past a past key (q ∷ rows) l =
-    let ih = least-past a past key rows l in
-    omega arith
-
--- the least key of the rows that pass a test is had from `low`, the least before i, and the rows from i on
+-- ---- the least key of the rows that pass a test: it is had from `low`, the least before i, and the rows from i on
 pub record Lowest (past : ℕ) (key : ℕ → ℕ) (test : ℕ → Bool) (n i low : ℕ) : Type 0 where
   pub at : Walk (leastOr past key (keep test (span 0 n))) (leastOr low key) test n i
 
@@ -241,7 +194,7 @@ module _ {past : ℕ} {key : ℕ → ℕ} {test : ℕ → Bool} {n : ℕ} where
       lowest-off h = record {
         at = by (test i)
             (λ o. let m : low ≤ key i = ltb-false (key i) low (rw o at (sym e ∙ h)) in
-            walk-on (s .at) l refl o (λ rows. let f = least-le low key rows in omega arith))
+            walk-on (s .at) l refl o (λ rows. let f = leastOr-past low key rows in omega arith))
             (λ o. walk-off (s .at) l refl o);
       }
 
@@ -249,7 +202,7 @@ module _ {past : ℕ} {key : ℕ → ℕ} {test : ℕ → Bool} {n : ℕ} where
       lowest-on h k =
           let m = both (test i) (ltb (key i) low) (sym e ∙ h) in
           let d = ltb-true (key i) low (m .1) in
-          record { at = walk-on (s .at) l refl (m .0) (λ rows. rw k (least-past (key i) low key rows (omega arith))) }
+          record { at = walk-on (s .at) l refl (m .0) (λ rows. rw k (leastOr-lower (key i) low key rows (omega arith))) }
 
 -- a table of least keys, one for each bucket: each row that passes a test counts in the bucket it belongs to
 pub record Buckets (bucket key : ℕ → ℕ) (test : ℕ → Bool) (n : ℕ) (low₀ : List ℕ) (i : ℕ) (low : List ℕ) : Type 0 where
@@ -289,31 +242,14 @@ module _ {bucket key : ℕ → ℕ} {test : ℕ → Bool} {n : ℕ} {low₀ : Li
     pub buckets-end : n ≤ i → (k : ℕ) → column low k ≡ leastOr (column low₀ k) key (keep (λ q. test q && eqb (bucket q) k) (span 0 n))
     buckets-end l k = lowest-end (s .at k) l
 
--- the least key as `Rows` has it, where no key is above `past`
-module _ (past : ℕ) (key : ℕ → ℕ) (bound : (q : ℕ) → key q ≤ past) where
-  least-is : (q : ℕ) (rows : List ℕ) → least key (q ∷ rows) ≡ leastOr past key (q ∷ rows)
-  least-is q [] = let b = bound q in omega arith
-  least-is q (p ∷ rows) = ap (min (key q)) (least-is p rows)
-
-  pub keep-least : (rows : List ℕ) → keepLeast key rows ≡ keep (λ q. eqb (key q) (leastOr past key rows)) rows
-  keep-least [] = refl
-  keep-least (q ∷ rows) = rw (least-is q rows)
-
 -- ---- a count: so many kept rows before i pass
-module _ (kept test : ℕ → Bool) where
-  count-keep : (rows : List ℕ) → count test (keep kept rows) ≡ length (keep (λ q. kept q && test q) rows)
-  count-keep [] = refl
-  count-keep (q ∷ rows) =
-      let ih = count-keep rows in
-      by (kept q) (λ e. by (test q) (λ d. simp (e, d, ih)) (λ d. simp (e, d, ih))) (λ e. simp (e, ih))
-
 pub record Tally (test : ℕ → Bool) (kept : List Bool) (i sum : ℕ) : Type 0 where
   pub at : Walk (count test (rowsOf kept)) (λ rows. sum + length rows) (λ q. on kept q && test q) (length kept) i
   pub few : sum ≤ i
 
 module _ {test : ℕ → Bool} {kept : List Bool} where
   pub tally : Tally test kept 0 0
-  tally = record { at = walk (rw (count-keep (on kept) test (span 0 (length kept))) (omega arith)); few = zero-le }
+  tally = record { at = walk (omega (arith, count-kept (on kept) test (span 0 (length kept)), count-length (λ q. on kept q && test q) (span 0 (length kept)))); few = zero-le }
 
   module _ {i sum : ℕ} (s : Tally test kept i sum) where
     pub tally-end : length kept ≤ i → sum ≡ count test (rowsOf kept)
@@ -326,47 +262,16 @@ module _ {test : ℕ → Bool} {kept : List Bool} where
       pub tally-on : b ≡ true → Tally test kept (i + 1) (sum + 1)
       tally-on h = let f = s .few in record { at = walk-on (s .at) l e h (λ rows. omega arith); few = omega arith }
 
--- how many rows are kept at all
-pub count-all : (rows : List ℕ) → count (λ q. true) rows ≡ length rows
-count-all [] = refl
-count-all (q ∷ rows) = ap suc (count-all rows)
-
 -- ---- a list that a loop has stored whole
-getD-table : {A : Type 0} (f : ℕ → A) (d : A) (from n k : ℕ) → k < n → getD (map f (span from n)) k d ≡ f (from + k)
-getD-table f d from zero k l = absurd (not-suc-le-zero l)
-getD-table f d from (suc n) zero l = ap f (omega arith)
-getD-table f d from (suc n) (suc k) l = getD-table f d (suc from) n k (omega arith) ∙ ap f (omega arith)
-
-length-span : (from n : ℕ) → length (span from n) ≡ n
-length-span from zero = refl
-length-span from (suc n) = ap suc (length-span (suc from) n)
-
-pub table-length : {A : Type 0} (n : ℕ) (f : ℕ → A) → length (table n f) ≡ n
-table-length n f = length-map (span 0 n) f ∙ length-span 0 n
-
-pub table-at : {A : Type 0} (f : ℕ → A) (d : A) (n k : ℕ) → k < n → getD (table n f) k d ≡ f k
-table-at f d n k l = getD-table f d 0 n k l ∙ ap f (omega arith)
-
 pub stored-end : {A : Type 0} {d : A} {f : ℕ → A} {n : ℕ} {xs₀ xs : List A} {i : ℕ} → Stored d f n xs₀ i xs → n ≤ i → xs ≡ table n f
 stored-end {d} {f} {n} {xs} s l =
     let e = table-length n f in
     let g = s .long in
     ext-getD d xs (table n f) (omega arith) (λ k m. s .done k (omega arith) ∙ sym (table-at f d n k (omega arith)))
 
-pub table-same : {A : Type 0} (f g : ℕ → A) (n : ℕ) → ((k : ℕ) → k < n → f k ≡ g k) → table n f ≡ table n g
-table-same f g n h = go 0 n (λ k l. h k (omega arith))
-  where
-    go : (from m : ℕ) → ((k : ℕ) → k < from + m → f k ≡ g k) → map f (span from m) ≡ map g (span from m)
-    go from zero h = refl
-    go from (suc m) h = rw (h from (omega arith), go (suc from) m (λ k l. h k (omega arith)))
-
-keep-all : (rows : List ℕ) → keep (λ q. true) rows ≡ rows
-keep-all [] = refl
-keep-all (q ∷ rows) = ap (λ (l : List ℕ). q ∷ l) (keep-all rows)
-
 -- flags that a loop has stored whole
 pub stored-rows : {f : ℕ → Bool} {n : ℕ} {xs₀ xs : List Bool} {i : ℕ} → Stored false f n xs₀ i xs → n ≤ i → rowsOf xs ≡ keep f (span 0 n)
-stored-rows {f} {n} {xs} s l = rw (s .long) (keep-same (on xs) f n (λ k m. s .done k (omega arith)))
+stored-rows {f} {n} {xs} s l = rw (s .long) (keep-agree (on xs) f (span 0 n) (λ k m. s .done k (omega (arith, in-span 0 n m))))
 
 pub all-rows : {n : ℕ} {xs₀ xs : List Bool} {i : ℕ} → Stored false (λ k. true) n xs₀ i xs → n ≤ i → rowsOf xs ≡ span 0 n
 all-rows {n} s l = stored-rows s l ∙ keep-all (span 0 n)

@@ -1,14 +1,15 @@
 -- A prefix is decided by its rows' fields, by MEDs as they count, and by the ids and distances of its own routers: two meshes that
 -- agree in these have the same stable assignments and standings.
-use Prim.Native.Nat.{ℕ, _<_, _≤_, min}
+use Prim.Native.Nat.{ℕ, _<_, _≤_}
 use native.Mathlib.Omega.{arith}
-use mathlib.Core.Path.{_≡_, refl, sym, ap, ap₂, subst, _∙_}
+use mathlib.Core.Path.{_≡_, sym, ap, subst, _∙_}
 use mathlib.Core.Bool.{cond}
-use mathlib.Core.List.{List, [], _∷_}
+use mathlib.Core.List.{List}
 use lib.Dec.{eqb}
 use lib.ListN.{getD}
 use Rattle.model.specs.Rows.{least, keepLeast}
-use Rattle.model.specs.RowLaws.{In, here, there, keep-in, keep-ext}
+use Rattle.model.specs.RowLaws.{In, Agree, agree-keep}
+use Rattle.model.specs.LeastLaws.{keepLeast-agree}
 use Rattle.model.specs.Decision.{Mesh, none, all, ownOf, metric, far, tieId, preferred, unbeaten, ownIfAny, choice}
 use Rattle.model.specs.DecisionLaws.{in-all, picks-preferred, picks-unbeaten, picks-own}
 use Rattle.model.specs.Stability.{Sound, available, Stable, standing, Between}
@@ -28,17 +29,6 @@ pub record Alike (M N : Mesh) : Type 0 where
   pub peer : M .peer ≡ N .peer
   pub id : (r : ℕ) → r < M .routers → M .id r ≡ N .id r
   pub distance : (a b : ℕ) → a < M .routers → b < M .routers → M .distance a b ≡ N .distance a b
-
-module _ (key key′ : ℕ → ℕ) where
-  least-ext : (rows : List ℕ) → ((q : ℕ) → In q rows → key q ≡ key′ q) → least key rows ≡ least key′ rows
-  least-ext [] f = refl
-  least-ext (q ∷ []) f = f q (here refl)
-  least-ext (q ∷ p ∷ rows) f = ap₂ min (f q (here refl)) (least-ext (p ∷ rows) (λ z m. f z (there m)))
-
-  keepLeast-ext : (rows : List ℕ) → ((q : ℕ) → In q rows → key q ≡ key′ q) → keepLeast key rows ≡ keepLeast key′ rows
-  keepLeast-ext rows f =
-      keep-ext (λ q. eqb (key q) (least key rows)) (λ q. eqb (key′ q) (least key′ rows)) rows
-      (λ q m. ap₂ eqb (f q m) (least-ext rows f))
 
 -- a mesh whose MEDs stand as they count
 abbrev built : (ℕ → ℕ) → (ℕ → ℕ → ℕ) → ℕ → ℕ → (router asn preference path origin med nid peer : ℕ → ℕ) → Mesh
@@ -90,17 +80,17 @@ module _ (M N : Mesh) (alike : Alike M N) where
     left-known q m =
         sound .owned q (in-all M (within q (picks-preferred M .from rows (picks-unbeaten M .from (preferred M rows) (picks-own M r .from (unbeaten M (preferred M rows)) m)))))
 
-    same-far : (q : ℕ) → In q left → far M r q ≡ far mixed r q
+    same-far : Agree (far M r) (far mixed r) left
     same-far q m = ap (λ (d : ℕ). cond (ownOf M r q) 0 d) (alike .distance r (M .router q) known (left-known q m))
 
-    same-tie : (q : ℕ) → In q left → tieId M r q ≡ tieId mixed r q
+    same-tie : Agree (tieId M r) (tieId mixed r) left
     same-tie q m = ap (λ (d : ℕ). cond (ownOf M r q) (M .nid q) d) (alike .id (M .router q) (left-known q m))
 
     same-choice : choice M r rows ≡ choice N r rows
     same-choice =
-        ap (λ (l : List ℕ). getD (keepLeast (M .peer) (keepLeast (tieId M r) l)) 0 none) (keepLeast-ext (far M r) (far mixed r) left same-far)
-        ∙ ap (λ (l : List ℕ). getD (keepLeast (M .peer) l) 0 none) (keepLeast-ext (tieId M r) (tieId mixed r) (keepLeast (far mixed r) left)
-        (λ q m. same-tie q (keep-in (λ z. eqb (far mixed r z) (least (far mixed r) left)) left m .0)))
+        ap (λ (l : List ℕ). getD (keepLeast (M .peer) (keepLeast (tieId M r) l)) 0 none) (keepLeast-agree (far M r) (far mixed r) left same-far)
+        ∙ ap (λ (l : List ℕ). getD (keepLeast (M .peer) l) 0 none) (keepLeast-agree (tieId M r) (tieId mixed r) (keepLeast (far mixed r) left)
+        (agree-keep (tieId M r) (tieId mixed r) (λ z. eqb (far mixed r z) (least (far mixed r) left)) left same-tie))
         ∙ same (λ K. choice K r rows)
 
   same-chosen : Sound M → (held : List ℕ) (r : ℕ) → r < M .routers → choice M r (available M held r) ≡ choice N r (available N held r)

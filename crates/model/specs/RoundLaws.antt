@@ -1,8 +1,8 @@
 -- Laws of rounds: how a round is made of flags, and how rounds are repeated.
-use Prim.Native.Nat.{ℕ, zero, suc, _+_, _-_, _≤_, _<_, zero-le, min}
+use Prim.Native.Nat.{ℕ, suc, _+_, _-_, _≤_, _<_, zero-le, min}
 use native.Mathlib.Nat.{sub-zero}
 use native.Mathlib.Omega.{arith}
-use mathlib.Core.Path.{_≡_, refl, sym, ap, _∙_, fun-ext}
+use mathlib.Core.Path.{_≡_, sym, ap, _∙_, fun-ext}
 use mathlib.Core.Bool.{Bool, _&&_, not, and-comm}
 use mathlib.Core.List.{List}
 use lib.Dec.{eqb, leb}
@@ -11,8 +11,10 @@ use Rattle.model.specs.Rows.{keep, some, table, column}
 use Rattle.model.specs.Decision.{beatsBy, unbeatenBy}
 use Rattle.model.specs.Contest.{Contest, leastOr, end, passed, firstFree, refine, repeat}
 use Rattle.model.specs.Lent.{rowsOf}
-use Rattle.model.specs.Arrangement.{listed, nextBy, Ready}
-use Rattle.model.specs.LoopLaws.{keep-keep, table-same, table-at, least-past}
+use Rattle.model.specs.Listing.{listed, nextBy, Ready}
+use Rattle.model.specs.RowLaws.{keep-keep, table-same, table-at}
+use Rattle.model.specs.LeastLaws.{leastOr-lower}
+use Rattle.model.specs.ContestLaws.{stays}
 
 -- the three parts of a round: what is passed, what that leaves free, and the first of it
 module _ {router place group med : List ℕ} {contends : List Bool} {ends : List ℕ} (ready : Ready router place group med contends ends) where
@@ -39,12 +41,7 @@ pub advanced : (router place : List ℕ) (free : List Bool) (ends : List ℕ) (n
     → table (length ends) (λ r. min (column ends r) (next r)) ≡ table (length ends) (nextBy router place free ends)
 advanced router place free ends next past high h =
     table-same (λ r. min (column ends r) (next r)) (nextBy router place free ends) (length ends) λ r l.
-    ap (min (column ends r)) (h r l) ∙ least-past (column ends r) past (column place) (keep (λ q. eqb (column router q) r) (rowsOf free)) (high r)
-
-module _ (C : Contest) where
-  at-rest : (k : ℕ) (x : List ℕ) → refine C x ≡ x → repeat C k x ≡ x
-  at-rest zero x e = refl
-  at-rest (suc k) x e = ap (repeat C k) e ∙ at-rest k x e
+    ap (min (column ends r)) (h r l) ∙ leastOr-lower (column ends r) past (column place) (keep (λ q. eqb (column router q) r) (rowsOf free)) (high r)
 
 -- so many rounds are done, and x is where they led
 pub record Rounds (C : Contest) (n : ℕ) (x₀ : List ℕ) (i : ℕ) (x : List ℕ) : Type 0 where
@@ -68,4 +65,4 @@ module _ {C : Contest} {n : ℕ} {x₀ : List ℕ} where
           record { within = omega arith; left = (rw d at (s .left)) ∙ ap (repeat C (n - (i + 1))) (sym e) }
 
       pub rounds-still : x′ ≡ x → x′ ≡ repeat C n x₀
-      rounds-still h = h ∙ sym (s .left ∙ at-rest C (n - i) x (sym e ∙ h))
+      rounds-still h = h ∙ sym (s .left ∙ stays C (n - i) x (sym h ∙ e))

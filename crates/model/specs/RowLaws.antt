@@ -1,15 +1,16 @@
--- Laws of the lists of rows: membership, what filters keep, counts, tables, and the pointwise order of lists of numbers.
-use Prim.Native.Nat.{ℕ, zero, suc, _+_, _≤_, _<_, zero-le, min, max}
+-- Laws of the lists of rows: membership, what filters keep, what agrees on the members, counts, tables, and the pointwise order of lists of numbers.
+use Prim.Native.Nat.{ℕ, zero, suc, _+_, _≤_, _<_, zero-le}
 use native.Mathlib.Nat.{not-suc-le-zero}
 use native.Mathlib.Omega.{arith}
 use mathlib.Core.Path.{_≡_, refl, sym, ap, ap₂, subst, _∙_}
 use mathlib.Core.Logic.{_⊎_, inl, inr, ⊎-elim}
-use mathlib.Core.Bool.{Bool, true, false, cond, _&&_, _||_, not}
+use mathlib.Core.Bool.{Bool, true, false, cond, _&&_, _||_, not, false≢true}
 use mathlib.Core.List.{List, [], _∷_, map}
-use lib.Dec.{T, eqb, leb, eqb→eq, eqb-refl, leb→le, nleb→lt, T-not, not-T}
+use lib.Dec.{T, eqb, eqb→eq, eqb-refl, T-not, not-T}
 use lib.ListN.{length, getD, length-map, List·getD-eq-default}
 use lib.Seq.{ext-getD}
-use Rattle.model.specs.Rows.{keep, some, count, span, table, least, greatest, keepLeast, keepGreatest}
+use Rattle.model.specs.NumberLaws.{le-or-lt}
+use Rattle.model.specs.Rows.{keep, some, count, span, table}
 
 -- ---- tests
 
@@ -41,6 +42,10 @@ and-right false b h = absurd h
 pub and-both : (a b : Bool) → T a → T b → T (a && b)
 and-both true b h k = k
 and-both false b h k = h
+
+pub both : (a b : Bool) → (a && b) ≡ true → (a ≡ true) × (b ≡ true)
+both true b e = (refl, e)
+both false b e = absurd (false≢true e)
 
 pub bool-ext : (a b : Bool) → (T a → T b) → (T b → T a) → a ≡ b
 bool-ext true true f g = refl
@@ -153,15 +158,15 @@ keep-in test {q} (p ∷ rows) m = go (in-cond (test p) m) (keep-in test rows)
     go (inl h) below = (here (h .1), subst (λ (k : ℕ). T (test k)) (sym (h .1)) (h .0))
     go (inr n) below = (there (below n .0), below n .1)
 
-pub keep-ext : (t u : ℕ → Bool) (rows : List ℕ) → ((q : ℕ) → In q rows → t q ≡ u q) → keep t rows ≡ keep u rows
-keep-ext t u [] f = refl
-keep-ext t u (p ∷ rows) f = ap₂ (λ (b : Bool) (l : List ℕ). cond b (p ∷ l) l) (f p (here refl)) (keep-ext t u rows (λ q m. f q (there m)))
-
 pub keep-keep : (t u : ℕ → Bool) (rows : List ℕ) → keep t (keep u rows) ≡ keep (λ q. u q && t q) rows
 keep-keep t u [] = refl
 keep-keep t u (q ∷ rows) =
     let ih = keep-keep t u rows in
     by (u q) (λ e. simp (e, ih)) (λ e. simp (e, ih))
+
+pub keep-all : (rows : List ℕ) → keep (λ q. true) rows ≡ rows
+keep-all [] = refl
+keep-all (p ∷ rows) = ap (λ (l : List ℕ). p ∷ l) (keep-all rows)
 
 -- a test on what is kept is one test
 pub some-kept : (kept test : ℕ → Bool) (rows : List ℕ) → some test (keep kept rows) ≡ some (λ q. kept q && test q) rows
@@ -176,6 +181,23 @@ count-kept kept test (q ∷ rows) =
     let ih = count-kept kept test rows in
     by (kept q) (λ e. simp (e, ih)) (λ e. simp (e, ih))
 
+-- ---- what agrees on the members
+
+abbrev pub Agree : {A : Type 0} → (f g : ℕ → A) → List ℕ → Type 0
+Agree f g rows = (q : ℕ) → In q rows → f q ≡ g q
+
+pub agree-keep : {A : Type 0} (f g : ℕ → A) (test : ℕ → Bool) (rows : List ℕ) → Agree f g rows → Agree f g (keep test rows)
+agree-keep f g test rows h = λ q m. h q (keep-in test rows m .0)
+
+module _ (t u : ℕ → Bool) where
+  pub keep-agree : (rows : List ℕ) → Agree t u rows → keep t rows ≡ keep u rows
+  keep-agree [] h = refl
+  keep-agree (p ∷ rows) h = rw (h p (here refl), keep-agree rows (λ q m. h q (there m)))
+
+  pub some-agree : (rows : List ℕ) → Agree t u rows → some t rows ≡ some u rows
+  some-agree [] h = refl
+  some-agree (p ∷ rows) h = rw (h p (here refl), some-agree rows (λ q m. h q (there m)))
+
 -- what filters leave of a list
 pub record Filtered (rows whole : List ℕ) : Type 0 where
   pub test : ℕ → Bool
@@ -189,7 +211,7 @@ filtered-keep u {rows} {whole} f = record { test = λ q. f .test q && u q; kept 
 
 -- it is what the test for its members leaves
 pub filtered-self : {rows whole : List ℕ} → Filtered rows whole → rows ≡ keep (λ q. some (eqb q) rows) whole
-filtered-self {rows} {whole} f = f .kept ∙ keep-ext (f .test) (λ q. some (eqb q) rows) whole
+filtered-self {rows} {whole} f = f .kept ∙ keep-agree (f .test) (λ q. some (eqb q) rows) whole
     (λ q m. bool-ext (f .test q) (some (eqb q) rows) (λ h. subst (In q) (sym (f .kept)) (in-keep (f .test) whole m h) .found)
     (λ h. keep-in (f .test) whole (subst (In q) (f .kept) (record { found = h })) .1))
 
@@ -272,7 +294,7 @@ span-once {q} a (suc n) m = go (in-cases m) (span-once (suc a) n)
 -- what filters leave of a span, where it has one member
 pub one-left : {h : ℕ} {rows : List ℕ} (a n : ℕ) → Filtered rows (span a n) → In h rows → ((q : ℕ) → In q rows → h ≡ q) → rows ≡ h ∷ []
 one-left {h} {rows} a n f m one = filtered-self f
-    ∙ keep-ext (λ q. some (eqb q) rows) (eqb h) (span a n)
+    ∙ keep-agree (λ q. some (eqb q) rows) (eqb h) (span a n)
     (λ q k. bool-ext (some (eqb q) rows) (eqb h q) (λ t. eq→eqb (one q (record { found = t }))) (λ t. subst (λ (z : ℕ). In z rows) (eqb→eq h q t) m .found))
     ∙ span-once a n (keep-in (f .test) (span a n) (subst (In h) (f .kept) m) .0)
 
@@ -299,85 +321,6 @@ table-same f g n h = go 0 n (λ k l. h k (omega arith))
     go : (from m : ℕ) → ((k : ℕ) → k < from + m → f k ≡ g k) → map f (span from m) ≡ map g (span from m)
     go from zero h = refl
     go from (suc m) h = rw (h from (omega arith), go (suc from) m (λ k l. h k (omega arith)))
-
--- ---- the least and the greatest
-
-pub least-le : (key : ℕ → ℕ) {q : ℕ} (rows : List ℕ) → In q rows → least key rows ≤ key q
-least-le key [] m = absurd (nowhere m)
-least-le key {q} (p ∷ []) m = elim (in-cases m) [ inl e ↦ (let k = ap key e in omega arith) | inr n ↦ absurd (nowhere n) ]
-least-le key {q} (p ∷ a ∷ rows) m = elim (in-cases m) [
-  | inl e ↦ (let k = ap key e in omega arith)
-  | inr n ↦ (let h = least-le key (a ∷ rows) n in omega arith)
-]
-
-pub least-some : (key : ℕ → ℕ) {q : ℕ} (rows : List ℕ) → In q rows → Some (λ p. key p ≡ least key rows) rows
-least-some key [] m = absurd (nowhere m)
-least-some key (p ∷ []) m = record { row = p; member = here refl; passes = refl }
-least-some key (p ∷ a ∷ rows) m = go (least-some key (a ∷ rows) (here refl)) (decide (leb (key p) (least key (a ∷ rows))))
-  where
-    go : Some (λ z. key z ≡ least key (a ∷ rows)) (a ∷ rows) → T (leb (key p) (least key (a ∷ rows))) ⊎ (T (leb (key p) (least key (a ∷ rows))) → ⊥)
-        → Some (λ z. key z ≡ min (key p) (least key (a ∷ rows))) (p ∷ a ∷ rows)
-    go w (inl h) = record { row = p; member = here refl; passes = omega (arith, leb→le (key p) (least key (a ∷ rows)) h) }
-    go w (inr h) = record { row = w .row; member = there (w .member); passes = omega (arith, w .passes, nleb→lt (key p) (least key (a ∷ rows)) (not-T (leb (key p) (least key (a ∷ rows))) h)) }
-
-pub le-greatest : (key : ℕ → ℕ) {q : ℕ} (rows : List ℕ) → In q rows → key q ≤ greatest key rows
-le-greatest key [] m = absurd (nowhere m)
-le-greatest key {q} (p ∷ rows) m = elim (in-cases m) [
-  | inl e ↦ (let k = ap key e in omega arith)
-  | inr n ↦ (let h = le-greatest key rows n in omega arith)
-]
-
-pub greatest-some : (key : ℕ → ℕ) {q : ℕ} (rows : List ℕ) → In q rows → Some (λ p. key p ≡ greatest key rows) rows
-greatest-some key [] m = absurd (nowhere m)
-greatest-some key (p ∷ rows) m = go (member-or-empty rows) (decide (leb (greatest key rows) (key p))) (λ q k. greatest-some key {q = q} rows k)
-  where
-    go : Some (λ q. Unit {0}) rows ⊎ (rows ≡ []) → T (leb (greatest key rows) (key p)) ⊎ (T (leb (greatest key rows) (key p)) → ⊥)
-        → ((q : ℕ) → In q rows → Some (λ z. key z ≡ greatest key rows) rows) → Some (λ z. key z ≡ max (key p) (greatest key rows)) (p ∷ rows)
-    go s (inl h) below = record { row = p; member = here refl; passes = omega (arith, leb→le (greatest key rows) (key p) h) }
-    go (inl s) (inr h) below = let w = below (s .row) (s .member) in record { row = w .row; member = there (w .member); passes = omega (arith, w .passes, nleb→lt (greatest key rows) (key p) (not-T (leb (greatest key rows) (key p)) h)) }
-    go (inr e) (inr h) below = record { row = p; member = here refl; passes = omega (arith, ap (greatest key) e) }
-
--- ---- steps
-
--- A step keeps the members that are as good as every member, and some member is. All steps of the decision process are such.
-pub record Picks (good : ℕ → ℕ → Type 0) (step : List ℕ → List ℕ) : Type 0 where
-  pub from : {q : ℕ} (rows : List ℕ) → In q (step rows) → In q rows
-  pub best : {q p : ℕ} (rows : List ℕ) → In q (step rows) → In p rows → good q p
-  pub into : {q : ℕ} (rows : List ℕ) → In q rows → ((p : ℕ) → In p rows → good q p) → In q (step rows)
-  pub any : {p : ℕ} (rows : List ℕ) → In p rows → Some (λ q. Unit {0}) (step rows)
-
-pub picks-least : (key : ℕ → ℕ) → Picks (λ q p. key q ≤ key p) (keepLeast key)
-picks-least key = record {
-  from = λ {q} rows m. keep-in (test rows) rows m .0;
-  best = λ {q} {p} rows m n. (let a = eqb→eq (key q) (least key rows) (keep-in (test rows) rows m .1) in let b = least-le key rows n in omega arith);
-  into = λ {q} rows m f. in-keep (test rows) rows m (eq→eqb (low q rows m (least-some key rows m) f));
-  any = λ rows m. (let w = least-some key rows m in record { row = w .row; member = in-keep (test rows) rows (w .member) (eq→eqb (w .passes)); passes = tt });
-}
-  where
-    test : List ℕ → ℕ → Bool
-    test rows q = eqb (key q) (least key rows)
-
-    low : (q : ℕ) (rows : List ℕ) → In q rows → Some (λ p. key p ≡ least key rows) rows → ((p : ℕ) → In p rows → key q ≤ key p) → key q ≡ least key rows
-    low q rows m w f = omega (arith, least-le key rows m, w .passes, f (w .row) (w .member))
-
-pub picks-greatest : (key : ℕ → ℕ) → Picks (λ q p. key p ≤ key q) (keepGreatest key)
-picks-greatest key = record {
-  from = λ {q} rows m. keep-in (test rows) rows m .0;
-  best = λ {q} {p} rows m n. (let a = eqb→eq (key q) (greatest key rows) (keep-in (test rows) rows m .1) in let b = le-greatest key rows n in omega arith);
-  into = λ {q} rows m f. in-keep (test rows) rows m (eq→eqb (high q rows m (greatest-some key rows m) f));
-  any = λ rows m. (let w = greatest-some key rows m in record { row = w .row; member = in-keep (test rows) rows (w .member) (eq→eqb (w .passes)); passes = tt });
-}
-  where
-    test : List ℕ → ℕ → Bool
-    test rows q = eqb (key q) (greatest key rows)
-
-    high : (q : ℕ) (rows : List ℕ) → In q rows → Some (λ p. key p ≡ greatest key rows) rows → ((p : ℕ) → In p rows → key p ≤ key q) → key q ≡ greatest key rows
-    high q rows m w f = omega (arith, le-greatest key rows m, w .passes, f (w .row) (w .member))
-
--- ---- numbers
-
-pub le-or-lt : (m n : ℕ) → (m ≤ n) ⊎ (n < m)
-le-or-lt m n = elim (decide (leb m n)) [ inl t ↦ inl (leb→le m n t) | inr f ↦ inr (nleb→lt m n (not-T (leb m n) f)) ]
 
 -- ---- the pointwise order
 
@@ -415,22 +358,6 @@ total-eq x y e h t = ⊑-antisym x y e h (back x y h t)
     back [] (b ∷ y) h t (suc i) = back [] y (λ j. omega arith) (omega arith) i
     back (a ∷ x) (b ∷ y) h t zero = omega (arith, h 0, total-mono x y (λ j. h (suc j)))
     back (a ∷ x) (b ∷ y) h t (suc i) = back x y (λ j. h (suc j)) (omega (arith, h 0)) i
-
--- a step up that shows at a place adds to the total
-pub total-step : (x y : List ℕ) → length x ≡ length y → x ⊑ y → (i : ℕ) → total x + cond (eqb (getD x i 0) (getD y i 0)) 0 1 ≤ total y
-total-step x y e h i = go (eqb (getD x i 0) (getD y i 0)) more
-  where
-    go : (b : Bool) → (T (not b) → total x < total y) → total x + cond b 0 1 ≤ total y
-    go true l = omega (arith, total-mono x y h)
-    go false l = omega (arith, l tt)
-
-    more : T (not (eqb (getD x i 0) (getD y i 0))) → total x < total y
-    more t =
-        ⊎-elim
-        (λ l. absurd (T-not (eqb (getD x i 0) (getD y i 0)) t
-        (subst (λ (z : List ℕ). T (eqb (getD x i 0) (getD z i 0))) (total-eq x y e h l) (eqb-refl (getD x i 0)))))
-        (λ l. l)
-        (le-or-lt (total y) (total x))
 
 -- ---- every member has one key, so the counts by key add up to no more than the length
 

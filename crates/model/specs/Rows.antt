@@ -3,7 +3,7 @@ use Prim.Native.Nat.{ℕ, zero, suc, min, max}
 use mathlib.Core.Bool.{Bool, false, cond, _||_}
 use mathlib.Core.List.{List, [], _∷_, map}
 use lib.Dec.{eqb}
-use lib.ListN.{length, getD}
+use lib.ListN.{getD}
 
 -- the members that pass a test, in their order
 abbrev pub keep : (ℕ → Bool) → List ℕ → List ℕ

@@ -3,16 +3,16 @@ use Prim.Native.Nat.{ℕ, _≤_, _<_}
 use native.Mathlib.Omega.{arith}
 use mathlib.Core.Path.{_≡_, refl, sym, ap, subst, _∙_}
 use mathlib.Core.Logic.{_⊎_, inl, inr, _↔_}
-use mathlib.Core.Bool.{Bool, true, cond, _&&_, _||_, not}
+use mathlib.Core.Bool.{Bool, true, cond, _&&_, _||_}
 use mathlib.Core.List.{List, [], _∷_}
 use lib.Dec.{T, eqb, ltb, eqb→eq, ltb→lt, lt→ltb, nltb→le, not-T}
 use lib.ListN.{length, getD}
 use lib.Seq.{ext-getD}
 use Rattle.model.specs.Rows.{keep, some, count}
-use Rattle.model.specs.RowLaws.{In, Some, Filtered, filtered, filtered-keep, in-keep, keep-in, keep-ext, bool-ext, or-cases, or-left, or-right, and-left, and-right, and-both, test-true, test-false, decide, eq→eqb}
+use Rattle.model.specs.RowLaws.{In, Some, Filtered, filtered, filtered-keep, in-keep, keep-in, keep-agree, bool-ext, or-cases, or-left, or-right, and-left, and-right, and-both, test-true, test-false, decide, eq→eqb}
 use Rattle.model.specs.RowLaws.{count-le, count-lt, count-all, table-at}
 use Rattle.model.specs.Decision.{Mesh, none, all, beats, unbeaten, ownOf, preferred, decided, choice}
-use Rattle.model.specs.DecisionLaws.{owned, one-row, First, part-from, part-into, chains-preferable, picks-preferred, picks-unbeaten, picks-last, decided-in, choice-decided, choice-in, choice-none, none-choice, decided-one}
+use Rattle.model.specs.DecisionLaws.{owned, one-row, First, part-from, part-into, chains-preferable, picks-preferred, picks-unbeaten, picks-last, decided-in, choice-decided, choice-none, none-choice, decided-one}
 use Rattle.model.specs.Stability.{Sound, available, Stable, contenders, before, standing, standings}
 
 lex-cases : (a b c d : ℕ) → T (ltb a b || (eqb a b && ltb c d)) → (a < b) ⊎ ((a ≡ b) × (c < d))
@@ -145,7 +145,7 @@ module _ (M : Mesh) where
   -- it depends only on which rows their owners hold
   pub available-same : (a b : List ℕ) → ((q : ℕ) → In q (all M) → getD a (M .router q) none ≡ q → getD b (M .router q) none ≡ q)
       → ((q : ℕ) → In q (all M) → getD b (M .router q) none ≡ q → getD a (M .router q) none ≡ q) → (r : ℕ) → available M a r ≡ available M b r
-  available-same a b f g r = keep-ext (λ z. ownOf M r z || eqb (getD a (M .router z) none) z) (λ z. ownOf M r z || eqb (getD b (M .router z) none) z) (all M)
+  available-same a b f g r = keep-agree (λ z. ownOf M r z || eqb (getD a (M .router z) none) z) (λ z. ownOf M r z || eqb (getD b (M .router z) none) z) (all M)
       (λ q m. ap (λ (t : Bool). ownOf M r q || t) (bool-ext (eqb (getD a (M .router q) none) q) (eqb (getD b (M .router q) none) q)
       (λ t. eq→eqb (f q m (eqb→eq (getD a (M .router q) none) q t))) (λ t. eq→eqb (g q m (eqb→eq (getD b (M .router q) none) q t)))))
 
@@ -210,10 +210,6 @@ module _ (M : Mesh) (sound : Sound M) where
   ]
 
   module _ (held : List ℕ) (st : Stable M held) where
-    -- a router holds one of the rows that are available to it, or none where there is none
-    pub held-available : {r : ℕ} → r < M .routers → In (getD held r none) (available M held r) ⊎ ((available M held r ≡ []) × (getD held r none ≡ none))
-    held-available {r} lt = subst (λ (h : ℕ). In h (available M held r) ⊎ ((available M held r ≡ []) × (h ≡ none))) (sym (st .chosen r lt)) (choice-in M sound r (available M held r))
-
     pub held-none : {r : ℕ} → r < M .routers → (getD held r none ≡ none) ↔ (available M held r ≡ [])
     held-none {r} lt = (
       λ e. choice-none M sound r (available M held r) (available-all M held r) (sym (st .chosen r lt) ∙ e),

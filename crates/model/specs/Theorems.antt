@@ -1,14 +1,14 @@
 -- What is proved of the definitions of Decision.antt and Stability.antt, each theorem under the sentence that it makes true.
 use Prim.Native.Nat.{ℕ, _≤_, _<_}
 use native.Mathlib.Omega.{arith}
-use mathlib.Core.Path.{_≡_, refl, sym, ap, subst, _∙_}
-use mathlib.Core.Logic.{_⊎_, inl, inr, _↔_}
-use mathlib.Core.Bool.{Bool, false, not}
+use mathlib.Core.Path.{_≡_, sym, ap, subst, _∙_}
+use mathlib.Core.Logic.{inl, inr, _↔_}
+use mathlib.Core.Bool.{Bool, not}
 use mathlib.Core.List.{List, [], _∷_}
 use lib.Dec.{T, eqb, eqb→eq, not-T, T-not}
 use lib.ListN.{length, getD}
 use lib.Seq.{ext-getD}
-use Rattle.model.specs.Rows.{keep, span, table}
+use Rattle.model.specs.Rows.{span}
 use Rattle.model.specs.RowLaws.{In, decide, eq→eqb, in-keep, keep-in, empty-of, nowhere, span-in, table-same}
 use Rattle.model.specs.Decision.{Mesh, none, decided}
 use Rattle.model.specs.Stability.{Sound, available, Stable, standing, standings, Between, differing, Settled, Only}

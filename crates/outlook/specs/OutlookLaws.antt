@@ -26,7 +26,8 @@ use Rattle.model.specs.Stability.{Between, Only, available, differing}
 use Rattle.model.specs.Contest.{early, late, atPlace, holding, earliest, latest, contest}
 use Rattle.model.specs.Columns.{Columns, columns, lentMesh, ForecastRows, Placed}
 use Rattle.model.specs.MeshLaws.{Alike, sound-alike, between-alike}
-use Rattle.model.specs.RowLaws.{by, le-or-lt, table-length}
+use Rattle.model.specs.NumberLaws.{le-or-lt}
+use Rattle.model.specs.RowLaws.{by, table-length}
 use Rattle.model.specs.Theorems.{forecast, pair-determined, settled-only}
 use Rattle.outlook.specs.declared.Differing.{Differing}
 use Rattle.outlook.specs.declared.Outlook.{Outlook}

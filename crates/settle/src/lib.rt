@@ -10,7 +10,7 @@ ghost use Rattle.model.specs.Rows.{keep, table, column};
 ghost use Rattle.model.specs.Contest.{refine, repeat};
 ghost use Rattle.model.specs.Lent.{was, is, col, on, rowsOf};
 ghost use Rattle.model.specs.Columns.{mostRouters, pastKeys};
-ghost use Rattle.model.specs.Arrangement.{listed, nextBy, startBy, settledBy, Ready};
+ghost use Rattle.model.specs.Listing.{listed, nextBy, startBy, settledBy, Ready};
 
 // Whether the contender p stands at or before the place that its router has.
 fn passed(router: &[u32], place: &[u32], contends: &[bool], state: &[u32], p: usize) -> bool

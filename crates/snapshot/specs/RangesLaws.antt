@@ -1,12 +1,10 @@
--- What lists of tests are worth in a proof, and the shift by which the code tests a prefix.
-use Prim.Native.Nat.{ℕ, zero, suc, _*_, _%_, _^_, _<_}
-use native.Mathlib.Nat.{one-mul, mod-eq-of-lt}
+-- What lists of tests are worth in a proof.
+use Prim.Native.Nat.{ℕ, zero, suc}
 use mathlib.Core.Path.{_≡_, refl, sym, subst}
 use mathlib.Core.Bool.{Bool, true, false, not}
 use mathlib.Core.List.{List, [], _∷_}
 use lib.ListN.{getD}
 use lib.Dec.{T}
-use lib.Pow.{pow-lt}
 use Rattle.snapshot.specs.Ranges.{orAny, anyOf, none}
 
 or-any : (bs : List Bool) → orAny true bs ≡ true
@@ -29,7 +27,3 @@ none-at (b ∷ bs) t (suc k) = none-at bs (none-split b bs t .1) k
 
 pub none-any : (bs : List Bool) → anyOf bs ≡ false → T (none bs)
 none-any bs e = subst (λ (b : Bool). T (not b)) (sym e) tt
-
--- a one that is shifted left in a word is a power of two
-pub shifted : (r : ℕ) → r < 64 → (1 * 2 ^ r) % 2 ^ 64 ≡ 2 ^ r
-shifted r h = rw (one-mul (2 ^ r)) (mod-eq-of-lt (pow-lt {i = r} {j = 64} h))

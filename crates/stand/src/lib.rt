@@ -9,7 +9,7 @@ ghost use Rattle.model.specs.Decision.{none};
 ghost use Rattle.model.specs.Contest.{leastOr};
 ghost use Rattle.model.specs.Lent.{was, is, col, on, rowsOf};
 ghost use Rattle.model.specs.Columns.{mostRows, columns, Fits};
-ghost use Rattle.model.specs.Arrangement.{standsAt, settledBy, Ready, RestRows};
+ghost use Rattle.model.specs.Listing.{standsAt, settledBy, Ready, RestRows};
 
 // Whether q is a contender at the place that its router has, and before the row that its router is known to stand at.
 fn stands(

@@ -8,7 +8,7 @@ use lib.ListN.{length, getD, length-map}
 use lib.Seq.{sets, length-sets}
 use Rattle.model.specs.Rows.{table}
 use Rattle.model.specs.Decision.{Route}
-use Rattle.model.specs.LoopLaws.{table-length, table-at, table-same}
+use Rattle.model.specs.RowLaws.{table-length, table-at, table-same}
 use Rattle.snapshot.specs.Limits.{stride, mostRoutes}
 use Rattle.snapshot.specs.Format.{Snapshot, distance, Valid}
 use Rattle.snapshot.specs.Tables.{Columns, Tables, used, putDistances, putRoutes, allRoutes, filled, countsOf, Held}

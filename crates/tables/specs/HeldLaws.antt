@@ -13,7 +13,7 @@ use lib.Arith.{digits-lt, digits-div, digits-mod}
 use borrow.Author.Tests.{lt-ltb, eq-eqb, ne-eqb, eqb-true, eqb-false}
 use Rattle.model.specs.Rows.{table, column}
 use Rattle.model.specs.Decision.{Route}
-use Rattle.model.specs.LoopLaws.{table-at, table-same, by}
+use Rattle.model.specs.RowLaws.{table-at, table-same, by}
 use Rattle.snapshot.specs.declared.Counts.{Counts}
 use Rattle.snapshot.specs.Limits.{mostRouters, stride, mostPrefixes, mostRoutes}
 use Rattle.snapshot.specs.Format.{Prefix, Snapshot, Pair, row, rows, pairs, pairsBefore, distance, routesIn, Valid}

@@ -13,7 +13,7 @@ use borrow.Author.Count.{below-none, below-more}
 use borrow.Author.Tests.{eq-eqb, ne-eqb, eqb-true, eqb-false, le-ltb, ltb-false, leb-true, leb-false, not-true, not-false}
 use Rattle.model.specs.Rows.{some, table, column}
 use Rattle.model.specs.Decision.{Route}
-use Rattle.model.specs.LoopLaws.{table-length, by}
+use Rattle.model.specs.RowLaws.{table-length, by}
 use Rattle.snapshot.specs.declared.Counts.{Counts}
 use Rattle.snapshot.specs.Limits.{mostRouters, mostPrefixes, mostInPrefix, mostRoutes, lastAsn, longestPath, lastOrigin}
 use Rattle.snapshot.specs.Ranges.{none, anyOf, countTests, idTests, prefixTests, routeTests, rises, risesRoute}

@@ -9,7 +9,7 @@ use lib.ListN.{length, getD, take, drop, take-append-drop, List·getD-append}
 use lib.Seq.{sets, sets-eq, length-sets, drop-append-seam, ext-getD, getD-drop, getD-take}
 use lib.ListN.{length-take, length-drop}
 use Rattle.model.specs.Rows.{some, span, table, column}
-use Rattle.model.specs.LoopLaws.{table-length, table-at, table-same, by}
+use Rattle.model.specs.RowLaws.{table-length, table-at, table-same, by}
 use Rattle.snapshot.specs.Format.{Each, latest}
 use Rattle.snapshot.specs.ChecksLaws.{latest-snoc}
 use Rattle.tables.specs.Judging.{Below}

@@ -11,7 +11,7 @@ use lib.Dec.{T, eqb, ltb}
 use borrow.Author.Tests.{ltb-true, eqb-true, eqb-false, eq-eqb, not-false}
 use Rattle.model.specs.Rows.{span, table, column}
 use Rattle.model.specs.Decision.{Route}
-use Rattle.model.specs.LoopLaws.{table-length, table-at, table-same, by, both}
+use Rattle.model.specs.RowLaws.{table-length, table-at, table-same, by, both}
 use Rattle.snapshot.specs.declared.Counts.{Counts}
 use Rattle.snapshot.specs.Limits.{stride, mostRoutes}
 use Rattle.snapshot.specs.Ranges.{none, distanceTests}

@@ -13,7 +13,7 @@ use Rattle.model.specs.Rows.{span, table, column, some}
 use Rattle.model.specs.Decision.{Route}
 use Rattle.model.specs.Stability.{Sound}
 use Rattle.model.specs.SoundLaws.{Rising, rising-sound}
-use Rattle.model.specs.LoopLaws.{table-length, table-at}
+use Rattle.model.specs.RowLaws.{table-length, table-at}
 use Rattle.snapshot.specs.declared.Counts.{Counts}
 use Rattle.snapshot.specs.Limits.{mostRouters, mostInPrefix, mostRoutes}
 use Rattle.snapshot.specs.Ranges.{none, routeTests, rises, risesRoute}

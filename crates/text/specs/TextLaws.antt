@@ -11,7 +11,7 @@ use lib.Dec.{ltb, lit<}
 use lib.ListN.{length, getD, set, take, length-set, length-append}
 use lib.Seq.{sets, length-sets, set-comm, take-suc, take-all, length-take-le}
 use Rattle.model.specs.Rows.{span}
-use Rattle.model.specs.RowLaws.{le-or-lt}
+use Rattle.model.specs.NumberLaws.{le-or-lt}
 use Rattle.model.specs.LoopLaws.{rest, rest-next, rest-end}
 use borrow.Author.Tests.{lt-ltb, le-ltb}
 use Rattle.text.specs.Text.{digits, widthFrom, width, decimal, each, Puts}

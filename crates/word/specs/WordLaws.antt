@@ -1,22 +1,19 @@
 -- The word of differing routers: how a loop makes it, and that its ones are as many as the routers.
 use Prim.Native.Nat.{ℕ, zero, suc, _+_, _*_, _≤_, _<_, _^_, _%_}
-use native.Mathlib.Nat.{pow-suc, one-mul, zero-mul, mul-comm, mul-assoc, add-mul, mod-eq-of-lt}
+use native.Mathlib.Nat.{pow-suc, one-mul, zero-mul, mul-comm, mul-assoc, add-mul}
 use native.Mathlib.Numerals.{add-one}
 use native.Mathlib.Omega.{arith}
-use mathlib.Core.Path.{_≡_, refl, sym, ap, ap₂, _∙_}
+use mathlib.Core.Path.{_≡_, refl, sym, ap, _∙_}
 use mathlib.Core.Bool.{Bool, true, false, cond}
-use mathlib.Core.List.{List, [], _∷_}
+use mathlib.Core.List.{List, _∷_}
 use lib.ListN.{length}
 use lib.Dec.{lit<}
-use lib.Pow.{pow-lt, pow-mono}
+use lib.Pow.{pow-mono}
 use lib.Count.{ones, ones-cat}
 use Rattle.model.specs.Rows.{keep, span}
+use Rattle.model.specs.NumberLaws.{shifted}
 use Rattle.model.specs.LoopLaws.{Walk, walk, walk-on, walk-off, walk-end}
 use Rattle.word.specs.Word.{word}
-
--- `1 << r`
-pub shifted : (r : ℕ) → r < 64 → (1 * 2 ^ r) % 2 ^ 64 ≡ 2 ^ r
-shifted r h = rw (one-mul (2 ^ r)) (mod-eq-of-lt (pow-lt {i = r} {j = 64} h))
 
 -- ---- the loop
 

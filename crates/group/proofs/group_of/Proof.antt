@@ -5,7 +5,7 @@ use mathlib.Core.List.{List}
 use lib.ListN.{getD}
 use borrow.Author.Needs.{needs}
 use Rattle.model.specs.Rows.{column}
-use Rattle.model.specs.Arrangement.{alikeBy, groupBy}
+use Rattle.model.specs.Listing.{alikeBy, groupBy}
 use Rattle.model.specs.LoopLaws.{Walk, walk, walk-off, walk-hit, walk-end}
 use Rattle.group.proofs.group_of.Statement.{statement}
 use Rattle.group.proofs.group_of.Tie as tie

@@ -5,8 +5,8 @@ use lib.ListN.{length}
 use denote.Ref.{now}
 use borrow.Author.Needs.{needs}
 use Rattle.model.specs.Rows.{column}
-use Rattle.model.specs.Arrangement.{groupBy}
-use Rattle.model.specs.ArrangementLaws.{group-le}
+use Rattle.model.specs.Listing.{groupBy}
+use Rattle.model.specs.ListingLaws.{group-le}
 use Rattle.model.specs.LoopLaws.{Stored, stored, stored-next, stored-end}
 use Rattle.group.proofs.groups.Statement.{statement}
 use Rattle.group.proofs.groups.Tie as tie

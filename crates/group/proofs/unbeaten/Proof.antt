@@ -11,8 +11,8 @@ use Rattle.model.specs.Rows.{keep, column}
 use Rattle.model.specs.Contest.{leastOr}
 use Rattle.model.specs.Lent.{rowsOf}
 use Rattle.model.specs.Columns.{mostRows, pastKeys}
-use Rattle.model.specs.ColumnLaws.{among-rows}
-use Rattle.model.specs.ArrangementLaws.{unbeaten-low}
+use Rattle.model.specs.ColumnLaws.{in-rows}
+use Rattle.model.specs.ListingLaws.{unbeaten-low}
 use Rattle.group.proofs.unbeaten.Statement.{statement}
 use Rattle.group.proofs.unbeaten.Tie as tie
 
@@ -40,7 +40,7 @@ returns c =
     (λ q m. let k = column (now (a .group)) q in
     lowered .lower .ensures k
     ∙ ap (λ (start : ℕ). leastOr start (column (now (a .med))) (keep (λ p. eqb (column (now (a .group)) p) k) (rowsOf (now (a .others)))))
-    (ap (λ (low : List ℕ). column low k) (made .past .ensures) ∙ getD-replicate mostRows k pastKeys 0 (start .pre .4 q (among-rows (now (a .kept)) q m))))
+    (ap (λ (low : List ℕ). column low k) (made .past .ensures) ∙ getD-replicate mostRows k pastKeys 0 (start .pre .4 q (in-rows (now (a .kept)) m))))
 
 pub unbeaten-spec : {M : Type 1} → statement M
 unbeaten-spec =

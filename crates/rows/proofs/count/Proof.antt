@@ -6,7 +6,8 @@ use lib.ListN.{length}
 use denote.Ref.{now}
 use borrow.Author.Needs.{needs}
 use Rattle.model.specs.Lent.{rowsOf, on}
-use Rattle.model.specs.LoopLaws.{Tally, tally, tally-off, tally-on, tally-end, count-all}
+use Rattle.model.specs.RowLaws.{count-all}
+use Rattle.model.specs.LoopLaws.{Tally, tally, tally-off, tally-on, tally-end}
 use Rattle.rows.proofs.count.Statement.{statement}
 use Rattle.rows.proofs.count.Tie as tie
 

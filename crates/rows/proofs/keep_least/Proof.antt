@@ -5,7 +5,7 @@ use denote.Ref.{now}
 use borrow.Author.Needs.{needs}
 use Rattle.model.specs.Rows.{column}
 use Rattle.model.specs.Columns.{pastKeys}
-use Rattle.model.specs.LoopLaws.{keep-least}
+use Rattle.model.specs.LeastLaws.{keep-least}
 use Rattle.rows.proofs.keep_least.Statement.{statement}
 use Rattle.rows.proofs.keep_least.Tie as tie
 

@@ -8,7 +8,7 @@ use denote.Ref.{now}
 use borrow.Author.Needs.{needs}
 use Rattle.model.specs.Contest.{repeat}
 use Rattle.model.specs.Lent.{rowsOf}
-use Rattle.model.specs.Arrangement.{listed}
+use Rattle.model.specs.Listing.{listed}
 use Rattle.settle.proofs.settled.Statement.{statement}
 use Rattle.settle.proofs.settled.Tie as tie
 

@@ -2,7 +2,7 @@
 use Prim.Native.Nat.{_-_}
 use lib.ListN.{length}
 use borrow.Author.Needs.{needs}
-use Rattle.model.specs.Arrangement.{startBy}
+use Rattle.model.specs.Listing.{startBy}
 use Rattle.model.specs.LoopLaws.{Stored, stored, stored-next, stored-end}
 use Rattle.settle.proofs.start.Statement.{statement}
 use Rattle.settle.proofs.start.Tie as tie

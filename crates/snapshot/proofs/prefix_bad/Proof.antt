@@ -4,7 +4,7 @@ use borrow.Author.Needs.{needs}
 use borrow.Author.Tests.{lt-ltb, le-ltb}
 use native.Mathlib.Omega.{arith}
 use lib.Pow.{pow-pos}
-use Rattle.snapshot.specs.RangesLaws.{shifted}
+use Rattle.model.specs.NumberLaws.{shifted}
 use Rattle.snapshot.proofs.prefix_bad.Statement.{statement}
 use Rattle.snapshot.proofs.prefix_bad.Tie as tie
 

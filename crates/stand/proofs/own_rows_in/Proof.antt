@@ -7,8 +7,8 @@ use denote.Ref.{now}
 use borrow.Author.Needs.{needs}
 use Rattle.model.specs.Rows.{table, column}
 use Rattle.model.specs.Columns.{Columns, columns}
-use Rattle.model.specs.Arrangement.{groupBy}
-use Rattle.model.specs.ArrangementLaws.{Arranged, ready, rest-early, rest-late}
+use Rattle.model.specs.Listing.{groupBy}
+use Rattle.model.specs.ListingLaws.{Arranged, ready, rest-early, rest-late}
 use Rattle.stand.proofs.own_rows_in.Statement.{statement}
 use Rattle.stand.proofs.own_rows_in.Tie as tie
 

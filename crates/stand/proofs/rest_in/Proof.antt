@@ -6,7 +6,7 @@ use mathlib.Core.List.{List}
 use denote.Ref.{now}
 use borrow.Author.Needs.{needs}
 use Rattle.model.specs.Rows.{table}
-use Rattle.model.specs.Arrangement.{standsAt}
+use Rattle.model.specs.Listing.{standsAt}
 use Rattle.stand.proofs.rest_in.Statement.{statement}
 use Rattle.stand.proofs.rest_in.Tie as tie
 

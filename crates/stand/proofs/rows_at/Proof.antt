@@ -12,8 +12,8 @@ use Rattle.model.specs.Rows.{keep, table, column}
 use Rattle.model.specs.Decision.{none}
 use Rattle.model.specs.Contest.{leastOr}
 use Rattle.model.specs.Lent.{rowsOf}
-use Rattle.model.specs.Arrangement.{standsAt}
-use Rattle.model.specs.LoopLaws.{table-at}
+use Rattle.model.specs.Listing.{standsAt}
+use Rattle.model.specs.RowLaws.{table-at}
 use Rattle.model.specs.ColumnLaws.{column-is}
 use Rattle.stand.proofs.rows_at.Statement.{statement}
 use Rattle.stand.proofs.rows_at.Tie as tie

@@ -10,7 +10,8 @@ use borrow.Author.Needs.{needs}
 use Rattle.model.specs.Rows.{keep, column, span}
 use Rattle.model.specs.Contest.{leastOr}
 use Rattle.model.specs.Lent.{on}
-use Rattle.model.specs.LoopLaws.{Buckets, buckets, buckets-off, buckets-on, buckets-end, keep-keep}
+use Rattle.model.specs.RowLaws.{keep-keep}
+use Rattle.model.specs.LoopLaws.{Buckets, buckets, buckets-off, buckets-on, buckets-end}
 use Rattle.stand.proofs.stand.Statement.{statement}
 use Rattle.stand.proofs.stand.Tie as tie
 

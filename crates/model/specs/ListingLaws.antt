@@ -1,21 +1,23 @@
 -- What ties the code's arrangement of a contest to the definitions of Contest.antt and Stability.antt.
 use Prim.Native.Nat.{ℕ, zero, suc, _+_, _<_, _≤_, min}
 use native.Mathlib.Omega.{arith}
-use mathlib.Core.Path.{_≡_, refl, sym, ap, ap₂, _∙_, fun-ext}
-use mathlib.Core.Bool.{Bool, true, false, _&&_, _||_, not, and-comm, and-assoc, and-self, and-true, and-false, false≢true, true≢false}
+use mathlib.Core.Path.{_≡_, refl, sym, ap, ap₂, _∙_}
+use mathlib.Core.Bool.{Bool, true, false, _&&_, _||_, not, and-assoc, and-self, and-true, and-false, false≢true, true≢false}
 use mathlib.Core.List.{List, [], _∷_}
 use lib.Dec.{eqb, ltb, leb}
 use lib.ListN.{length, getD}
 use borrow.Author.Tests.{eqb-true, eqb-false, eq-eqb, ne-eqb, lt-ltb, le-ltb, ltb-true, ltb-false}
 use Rattle.model.specs.Rows.{keep, some, count, span, table, column}
-use Rattle.model.specs.Decision.{Mesh, none, all, ownOf, metric, beats, beatsBy, unbeatenBy, preferred}
-use Rattle.model.specs.Stability.{contenders, before, standing}
+use Rattle.model.specs.Decision.{Mesh, none, ownOf, metric, beats, beatsBy, unbeatenBy, preferred}
+use Rattle.model.specs.Stability.{contenders, standing}
 use Rattle.model.specs.Contest.{Contest, leastOr, end, passed, firstFree, refine, repeat, beatsOwnBy, aheadBy, contending, placeOf, contest, earliest, latest, top, atPlace}
-use Rattle.model.specs.Lent.{on, rowsOf}
+use Rattle.model.specs.Lent.{rowsOf}
 use Rattle.model.specs.Columns.{Columns, Fits, mostRows, routesMesh}
-use Rattle.model.specs.Arrangement.{alikeBy, groupBy, placeBy, listed, standsAt, startBy, settledBy, Ready}
-use Rattle.model.specs.LoopLaws.{by, both, keep-keep, table-same, table-at, table-length}
-use Rattle.model.specs.ColumnLaws.{Among, among-keep, among-rows, Agree, agree-keep, keep-agree, some-agree, least-or-agree, column-table}
+use Rattle.model.specs.Listing.{alikeBy, groupBy, placeBy, listed, standsAt, startBy, settledBy, Ready}
+use Rattle.model.specs.RowLaws.{by, both, In, Agree, agree-keep, keep-agree, some-agree, keep-keep, table-same, table-at, table-length}
+use Rattle.model.specs.LeastLaws.{leastOr-agree}
+use Rattle.model.specs.ColumnLaws.{in-rows, column-table}
+use Rattle.model.specs.EarlyLateLaws.{contenders-items, place-standing}
 
 -- ---- groups
 
@@ -110,7 +112,7 @@ module _ (asn med : ℕ → ℕ) (past q : ℕ) (high : med q ≤ past) where
 
 -- so step 4 needs only the lowest MED of each group, where no MED is above `past`
 pub unbeaten-low : (group med low : ℕ → ℕ) (past : ℕ) (others rows : List ℕ) → ((q : ℕ) → med q ≤ past)
-    → ((q : ℕ) → Among q rows → low (group q) ≡ leastOr past med (keep (λ p. eqb (group p) (group q)) others))
+    → ((q : ℕ) → In q rows → low (group q) ≡ leastOr past med (keep (λ p. eqb (group p) (group q)) others))
     → keep (λ q. not (ltb (low (group q)) (med q))) rows ≡ unbeatenBy (beatsBy group med) others rows
 unbeaten-low group med low past others rows high lows =
     keep-agree (λ q. not (ltb (low (group q)) (med q))) (λ q. not (some (λ p. beatsBy group med p q) others)) rows
@@ -118,7 +120,7 @@ unbeaten-low group med low past others rows high lows =
 
 -- what beats what may be told by any test that agrees on the rows in question
 pub unbeaten-agree : (beat beat′ : ℕ → ℕ → Bool) (others rows : List ℕ)
-    → ((q : ℕ) → Among q rows → Agree (λ p. beat p q) (λ p. beat′ p q) others)
+    → ((q : ℕ) → In q rows → Agree (λ p. beat p q) (λ p. beat′ p q) others)
     → unbeatenBy beat others rows ≡ unbeatenBy beat′ others rows
 unbeaten-agree beat beat′ others rows h =
     keep-agree (λ q. not (some (λ p. beat p q) others)) (λ q. not (some (λ p. beat′ p q) others)) rows
@@ -139,7 +141,7 @@ module _ (asn med : ℕ → ℕ) where
 
 -- ---- contests that agree on their items come to the same
 module _ (owners : ℕ) (items : List ℕ) (owner place place′ : ℕ → ℕ) (beat beat′ : ℕ → ℕ → Bool)
-    (places : Agree place place′ items) (beating : (q : ℕ) → Among q items → Agree (λ p. beat p q) (λ p. beat′ p q) items) where
+    (places : Agree place place′ items) (beating : (q : ℕ) → In q items → Agree (λ p. beat p q) (λ p. beat′ p q) items) where
   abbrev C : Contest
   C = record { owners = owners; items = items; owner = owner; place = place; beats = beat }
 
@@ -159,7 +161,7 @@ module _ (owners : ℕ) (items : List ℕ) (owner place place′ : ℕ → ℕ) 
       let same : keep t items ≡ keep u items = keep-agree t u items
       (λ q m. ap (λ (b : Bool). eqb (owner q) r && not b) (some-agree (λ p. beat p q) (λ p. beat′ p q) seen (agree-keep (λ p. beat p q) (λ p. beat′ p q) test items (beating q m)))) in
       ap (leastOr (end C r) place) same
-      ∙ least-or-agree place place′ (end C r) (keep u items) (agree-keep place place′ u items places)
+      ∙ leastOr-agree place place′ (end C r) (keep u items) (agree-keep place place′ u items places)
 
   refine-agree : (x : List ℕ) → refine C x ≡ refine D x
   refine-agree x =
@@ -170,52 +172,7 @@ module _ (owners : ℕ) (items : List ℕ) (owner place place′ : ℕ → ℕ) 
   repeat-agree zero x = refl
   repeat-agree (suc n) x = ap (repeat C n) (refine-agree x) ∙ repeat-agree n (refine D x)
 
--- ---- contenders, places and the rows at them, of a mesh
-module _ (kept test : ℕ → Bool) where
-  some-of-kept : (rows : List ℕ) → some test (keep kept rows) ≡ some (λ q. kept q && test q) rows
-  some-of-kept [] = refl
-  some-of-kept (q ∷ rows) =
-      let ih = some-of-kept rows in
-      by (kept q) (λ e. simp (e, ih)) (λ e. simp (e, ih))
-
-  count-of-kept : (rows : List ℕ) → count test (keep kept rows) ≡ count (λ q. kept q && test q) rows
-  count-of-kept [] = refl
-  count-of-kept (q ∷ rows) =
-      let ih = count-of-kept rows in
-      by (kept q) (λ e. simp (e, ih)) (λ e. simp (e, ih))
-
-module _ (M : Mesh) (r : ℕ) where
-  -- a router's contenders are its own of all that contend
-  pub contenders-are : contenders M r ≡ keep (ownOf M r) (contending M)
-  contenders-are =
-      let rows = preferred M (all M) in
-      let own = ownOf M r in
-      let free : ℕ → Bool = λ q. not (some (λ p. beatsOwnBy (M .router) (M .asn) (metric M) p q) rows) in
-      let alone : ℕ → Bool = λ q. not (some (λ p. beats M p q) (keep own rows)) in
-      keep-keep alone own rows
-      ∙ ap (λ (t : ℕ → Bool). keep t rows) (fun-ext λ q. by (own q)
-      (λ e. let same : M .router q ≡ r = eqb-true (M .router q) r e in
-      rw (same, some-of-kept own (λ p. beats M p q) rows, and-comm (eqb r r) (not (some (λ p. own p && beats M p q) rows))))
-      (λ e. rw (e, and-false (free q))))
-      ∙ sym (keep-keep own free rows)
-
-  -- a contender stands at its place
-  pub standing-is : (q : ℕ) → Among q (contenders M r) → standing M r q ≡ placeOf M q
-  standing-is q m =
-      let own = ownOf M r in
-      let h = among-keep own q (contending M) (rw contenders-are at m) in
-      let same : M .router q ≡ r = eqb-true (M .router q) r (h .0) in
-      let e : count (λ p. before M p q) (contenders M r) ≡ placeOf M q =
-      ap (count (λ p. before M p q)) contenders-are ∙ count-of-kept own (λ p. before M p q) (contending M)
-      ∙ ap (λ (k : ℕ). count (λ p. eqb (M .router p) k && before M p q) (contending M)) (sym same) in
-      rw m e
-
-  -- the row at a place, by places
-  pub at-place : (x : List ℕ) → atPlace M x r ≡ leastOr none (λ q. q) (keep (λ q. eqb (placeOf M q) (getD x r 0)) (keep (ownOf M r) (contending M)))
-  at-place x =
-      ap (leastOr none (λ q. q)) (keep-agree (λ q. eqb (standing M r q) (getD x r 0)) (λ q. eqb (placeOf M q) (getD x r 0)) (contenders M r)
-      (λ q m. ap (λ (k : ℕ). eqb k (getD x r 0)) (standing-is q m)))
-      ∙ ap (λ (rows : List ℕ). leastOr none (λ q. q) (keep (λ q. eqb (placeOf M q) (getD x r 0)) rows)) contenders-are
+-- ---- contenders
 
 -- what the code finds of contenders: by the flags of all rows, of the preferred, and of those that no group beats
 pub contending-is : (t : Columns) (routers : ℕ) (kept : List Bool) {every free : List ℕ} {group : List ℕ}
@@ -232,7 +189,7 @@ contending-is t routers kept {group} a l k g f =
     ∙ ap (λ (xs : List ℕ). unbeatenBy (beatsBy (column xs) (column (t .med))) (rowsOf kept) (rowsOf kept)) g
     ∙ unbeaten-agree (beatsBy stored (column (t .med))) (beatsOwnBy (M .router) (M .asn) (metric M)) (rowsOf kept) (rowsOf kept)
     (λ q m p m′. beats-own-grouped (column (t .asn)) (column (t .med)) (column (t .router)) n p q
-    (let h = among-rows kept p m′ in omega arith) (let h = among-rows kept q m in omega arith))
+    (let h = in-rows kept m′ in omega arith) (let h = in-rows kept m in omega arith))
     ∙ ap (λ (rows : List ℕ). unbeatenBy (beatsOwnBy (M .router) (M .asn) (metric M)) rows rows) (k ∙ ap (preferred M) a)
 
 -- a stored group is a row
@@ -261,17 +218,17 @@ module _ {routers : ℕ} {t : Columns} {contends : List Bool} {place group ends 
   ends-long = ap length (a .ends-are) ∙ table-length routers (λ r. count (λ q. eqb (column (t .router) q) r) (rowsOf contends))
 
   -- the place of a row that contends
-  place-at : (q : ℕ) → Among q (rowsOf contends) → column place q ≡ placeOf M q
+  place-at : (q : ℕ) → In q (rowsOf contends) → column place q ≡ placeOf M q
   place-at q m =
       ap (λ (xs : List ℕ). column xs q) (a .places-are)
       ∙ column-table (placeBy (t .router) (t .nid) (t .peer) contends) contends q m
       ∙ ap (count (aheadBy (M .router) (M .nid) (M .peer) q)) (a .contends-are)
 
-  beats-at : (q : ℕ) → Among q (rowsOf contends) → Agree (λ p. beatsBy (column group) (column (t .med)) p q) (λ p. beats M p q) (rowsOf contends)
+  beats-at : (q : ℕ) → In q (rowsOf contends) → Agree (λ p. beatsBy (column group) (column (t .med)) p q) (λ p. beats M p q) (rowsOf contends)
   beats-at q m p m′ =
       let l = a .contends-long in
-      let h = among-rows contends p m′ in
-      let k = among-rows contends q m in
+      let h = in-rows contends m′ in
+      let k = in-rows contends m in
       ap (λ (xs : List ℕ). beatsBy (column xs) (column (t .med)) p q) (a .groups-are)
       ∙ beats-grouped (column (t .asn)) (column (t .med)) (length (t .router)) p q (omega arith) (omega arith)
 
@@ -302,13 +259,15 @@ module _ {routers : ℕ} {t : Columns} {contends : List Bool} {place group ends 
       let own = ownOf M r in
       let stands : ℕ → Bool = λ q. eqb (column place q) (column x (M .router q)) && own q in
       let at : ℕ → Bool = λ q. eqb (placeOf M q) (getD x r 0) in
+      let standing-at : ℕ → Bool = λ q. eqb (standing M r q) (getD x r 0) in
       ap (leastOr none (λ q. q)) (
       keep-agree stands (λ q. own q && at q) (rowsOf contends) (λ q m. by (own q)
       (λ e. rw (e, place-at q m, eqb-true (M .router q) r e, and-true (at q)))
       (λ e. rw (e, and-false (eqb (column place q) (column x (M .router q))))))
       ∙ sym (keep-keep at own (rowsOf contends))
-      ∙ ap (λ (rows : List ℕ). keep at (keep own rows)) (a .contends-are))
-      ∙ sym (at-place M r x)
+      ∙ ap (λ (rows : List ℕ). keep at (keep own rows)) (a .contends-are)
+      ∙ ap (keep at) (contenders-items M r)
+      ∙ keep-agree at standing-at (contenders M r) (λ q m. ap (λ (k : ℕ). eqb k (getD x r 0)) (place-standing M r m)))
 
   stands-are : (x : List ℕ) → table (length ends) (standsAt (t .router) place contends x) ≡ table routers (atPlace M x)
   stands-are x =
