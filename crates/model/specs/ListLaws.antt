@@ -6,18 +6,18 @@ use native.Mathlib.Numerals.{add-one}
 use native.Mathlib.Omega.{arith}
 use mathlib.Core.Path.{_≡_, refl, sym, ap, subst, _∙_}
 use mathlib.Core.Logic.{_⊎_, inl, inr, ⊎-elim}
-use mathlib.Core.Bool.{Bool, true, false, cond, _||_, or-true, or-false}
+use mathlib.Core.Bool.{Bool, true, false, _||_, or-true, or-false}
 use mathlib.Core.List.{List, [], _∷_, _++_, append-nil, map-id}
 use lib.Dec.{eqb}
 use lib.ListN.{length, getD, take, drop, set, replicate, length-set, length-append, length-replicate, getD-replicate, drop-of-length-le}
 use lib.Seq.{drop-cons, drop-drop, drop-set-lt, take-suc-set, take-append-le, take-length, length-take-le, append-snoc, getD-drop, getD-set-same, getD-set-other, ext-getD}
-use borrow.Author.Tests.{eqb-true, eqb-false, eq-eqb}
-use Rattle.model.specs.Rows.{keep, some, span, table, least, greatest, keepLeast, keepGreatest, column}
+use borrow.Author.Tests.{eqb-true, eqb-false}
+use Rattle.model.specs.Rows.{keep, some, span, table, greatest, keepLeast, column}
 use Rattle.model.specs.Contest.{leastOr}
 use Rattle.model.specs.Lent.{on, rowsOf, Inside, Front}
-use Rattle.model.specs.RowLaws.{by, In, here, there, nowhere, in-cases, keep-in, keep-ext, Filtered, filtered-self, in-span, length-span, table-length, table-at}
-use Rattle.model.specs.LoopLaws.{Stored, stored-end, least-past}
-use Rattle.model.specs.MeshLaws.{keepLeast-ext}
+use Rattle.model.specs.RowLaws.{by, In, here, there, nowhere, in-cases, Agree, keep-agree, Filtered, filtered-self, in-span, table-length, table-at}
+use Rattle.model.specs.LeastLaws.{Picks, leastOr-past, leastOr-lower, keepLeast-agree}
+use Rattle.model.specs.LoopLaws.{Stored, stored-end}
 
 -- the rows from place i on are the row there and those after it
 drop-next : (rows : List ℕ) (i : ℕ) → i < length rows → drop i rows ≡ column rows i ∷ drop (i + 1) rows
@@ -81,10 +81,10 @@ module _ {past : ℕ} {key : ℕ → ℕ} {rows : List ℕ} where
 
     module _ {k : ℕ} (l : i < length rows) (e : k ≡ key (column rows i)) where
       pub lower-off : low ≤ k → Lower past key rows (i + 1) low
-      lower-off h = record { at = along-next (s .at) l (λ rest. let m = least-past low low key rest (le-refl low) in omega arith) }
+      lower-off h = record { at = along-next (s .at) l (λ rest. let m = leastOr-past low key rest in omega arith) }
 
       pub lower-on : k < low → Lower past key rows (i + 1) k
-      lower-on h = record { at = along-next (s .at) l (λ rest. let m = least-past (key (column rows i)) low key rest (omega arith) in rw e m) }
+      lower-on h = record { at = along-next (s .at) l (λ rest. let m = leastOr-lower (key (column rows i)) low key rest (omega arith) in rw e m) }
 
 -- ---- the greatest key
 pub record Higher (key : ℕ → ℕ) (rows : List ℕ) (i high : ℕ) : Type 0 where
@@ -191,12 +191,12 @@ module _ {f : ℕ → ℕ} {rows key₀ : List ℕ} where
           (s .done q m));
     }
 
-    keyed-all : length rows ≤ i → (q : ℕ) → In q rows → column key q ≡ f q
+    keyed-all : length rows ≤ i → Agree (column key) f rows
     keyed-all l q m = ⊎-elim (λ e. e) (λ k. absurd (nowhere (subst (In q) (drop-of-length-le rows l) k))) (s .done q m)
 
     -- so keeping the rows with the least of what was stored is keeping those with the least of what it was computed by
     pub keyed-least : {n : ℕ} {list : List ℕ} → length rows ≤ i → Front n list (keepLeast (column key) rows) → Front n list (keepLeast f rows)
-    keyed-least l e = record { few = e .few; are = e .are ∙ keepLeast-ext (column key) f rows (keyed-all l) }
+    keyed-least l e = record { few = e .few; are = e .are ∙ keepLeast-agree (column key) f rows (keyed-all l) }
 
 -- ---- a loop that sets the flag of each row of a list
 pub record Marks (rows : List ℕ) (flags₀ : List Bool) (i : ℕ) (flags : List Bool) : Type 0 where
@@ -238,19 +238,17 @@ in-at [] i l = absurd (not-suc-le-zero l)
 in-at (p ∷ rows) zero l = here refl
 in-at (p ∷ rows) (suc i) l = there (in-at rows i (omega arith))
 
-pub inside-in : {n q : ℕ} (rows : List ℕ) → Inside n rows → In q rows → q < n
+inside-in : {n q : ℕ} (rows : List ℕ) → Inside n rows → In q rows → q < n
 inside-in [] h m = absurd (nowhere m)
 inside-in {n} {q} (p ∷ rows) h m =
     ⊎-elim (λ e. let b = h .below 0 (omega arith) in omega arith) (inside-in rows (record { below = λ i l. h .below (suc i) (omega arith) })) (in-cases m)
 
-pub inside-keep : {n : ℕ} (test : ℕ → Bool) (rows : List ℕ) → Inside n rows → Inside n (keep test rows)
-inside-keep test rows h = record { below = λ i l. inside-in rows h (keep-in test rows (in-at (keep test rows) i l) .0) }
+-- members of rows that are inside are inside; so are those that a step keeps
+pub inside-part : {n : ℕ} {rows others : List ℕ} → Inside n rows → ((q : ℕ) → In q others → In q rows) → Inside n others
+inside-part {rows} {others} h part = record { below = λ i l. inside-in rows h (part (column others i) (in-at others i l)) }
 
-pub inside-least : {n : ℕ} (key : ℕ → ℕ) (rows : List ℕ) → Inside n rows → Inside n (keepLeast key rows)
-inside-least key rows h = inside-keep (λ q. eqb (key q) (least key rows)) rows h
-
-pub inside-greatest : {n : ℕ} (key : ℕ → ℕ) (rows : List ℕ) → Inside n rows → Inside n (keepGreatest key rows)
-inside-greatest key rows h = inside-keep (λ q. eqb (key q) (greatest key rows)) rows h
+pub inside-step : {n : ℕ} {good : ℕ → ℕ → Type 0} {step : List ℕ → List ℕ} → Picks good step → (rows : List ℕ) → Inside n rows → Inside n (step rows)
+inside-step p rows h = inside-part h (λ q m. p .from rows m)
 
 pub inside-span : (n : ℕ) → Inside n (span 0 n)
 inside-span n = record { below = λ i l. omega (arith, in-span 0 n (in-at (span 0 n) i l)) }
@@ -272,12 +270,16 @@ front-long {n} {list} f = sym (length-take-le n list (f .few))
 pub front-inside : {k n : ℕ} {list rows : List ℕ} → Front n list rows → Inside k rows → Inside k (take n list)
 front-inside {k} f h = subst (Inside k) (sym (f .are)) h
 
+-- what a step makes of it is what it makes of those rows
+pub front-of : (step : List ℕ → List ℕ) {n m : ℕ} {list other rows : List ℕ} → Front n list rows → Front m other (step (take n list)) → Front m other (step rows)
+front-of step f g = record { few = g .few; are = g .are ∙ ap step (f .are) }
+
 -- what a step leaves of the front that is lent to it is the front of the whole list
 pub front-next : (step : List ℕ → List ℕ) {n m : ℕ} {list lent rows : List ℕ}
     → Front n list rows → Front m lent (step (take n list)) → Front m (lent ++ drop n list) (step rows)
 front-next step {n} {m} {list} {lent} f g = record {
   few = omega (arith, g .few, length-append lent (drop n list));
-  are = take-append-le m lent (drop n list) (g .few) ∙ g .are ∙ ap step (f .are);
+  are = take-append-le m lent (drop n list) (g .few) ∙ front-of step f g .are;
 }
 
 -- ---- rows that filters leave of all rows are the rows of their flags
@@ -286,7 +288,7 @@ pub marked-rows : (n : ℕ) {rows : List ℕ} {flags₀ flags : List Bool} → F
 marked-rows n {rows} {flags₀} {flags} f e d =
     let long : length flags₀ ≡ n = ap length e ∙ length-replicate n false in
     let all : length flags ≡ n = ap length d ∙ table-length (length flags₀) (λ q. on flags₀ q || some (eqb q) rows) ∙ long in
-    rw all (keep-ext (on flags) (λ q. some (eqb q) rows) (span 0 n) (λ q m. at q (omega (arith, in-span 0 n m)) long)) ∙ sym (filtered-self f)
+    rw all (keep-agree (on flags) (λ q. some (eqb q) rows) (span 0 n) (λ q m. at q (omega (arith, in-span 0 n m)) long)) ∙ sym (filtered-self f)
   where
     at : (q : ℕ) → q < n → length flags₀ ≡ n → on flags q ≡ some (eqb q) rows
     at q l long =
