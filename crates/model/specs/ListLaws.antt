@@ -27,6 +27,67 @@ drop-next rows i l = rw add-one (drop-cons rows i 0 l)
 take-next : (rows : List ℕ) (n v : ℕ) → n < length rows → take (n + 1) (set rows n v) ≡ take n rows ++ (v ∷ [])
 take-next rows n v l = rw add-one (take-suc-set rows n v l)
 
+-- ---- rows inside columns
+
+in-at : (rows : List ℕ) (i : ℕ) → i < length rows → In (column rows i) rows
+in-at [] i l = absurd (not-suc-le-zero l)
+in-at (p ∷ rows) zero l = here refl
+in-at (p ∷ rows) (suc i) l = there (in-at rows i (omega arith))
+
+inside-in : {n q : ℕ} (rows : List ℕ) → Inside n rows → In q rows → q < n
+inside-in [] h m = absurd (nowhere m)
+inside-in {n} {q} (p ∷ rows) h m =
+    ⊎-elim (λ e. let b = h .below 0 (omega arith) in omega arith) (inside-in rows (record { below = λ i l. h .below (suc i) (omega arith) })) (in-cases m)
+
+-- members of rows that are inside are inside; so are those that a step keeps
+pub inside-part : {n : ℕ} {rows others : List ℕ} → Inside n rows → ((q : ℕ) → In q others → In q rows) → Inside n others
+inside-part {rows} {others} h part = record { below = λ i l. inside-in rows h (part (column others i) (in-at others i l)) }
+
+pub inside-step : {n : ℕ} {good : ℕ → ℕ → Type 0} {step : List ℕ → List ℕ} → Picks good step → (rows : List ℕ) → Inside n rows → Inside n (step rows)
+inside-step p rows h = inside-part h (λ q m. p .from rows m)
+
+pub inside-span : {rows : List ℕ} (n : ℕ) → rows ≡ span 0 n → Inside n rows
+inside-span n e = subst (Inside n) (sym e) (record { below = λ i l. omega (arith, in-span 0 n (in-at (span 0 n) i l)) })
+
+-- columns of one length
+pub inside-long : {m n : ℕ} {rows : List ℕ} → Inside m rows → n ≡ m → Inside n rows
+inside-long h e = record { below = λ i l. omega (arith, h .below i l) }
+
+-- ---- the front of a list
+
+-- all of it
+pub front-all : (rows : List ℕ) → Front (length rows) rows rows
+front-all rows = record { few = le-refl (length rows); are = take-length rows }
+
+-- the same rows, by another name
+pub front-is : {n : ℕ} {list rows others : List ℕ} → Front n list rows → rows ≡ others → Front n list others
+front-is f e = record { few = f .few; are = f .are ∙ e }
+
+-- it is as long as it says, and its rows are inside where those that it holds are
+pub front-long : {n : ℕ} {list rows : List ℕ} → Front n list rows → n ≡ length (take n list)
+front-long {n} {list} f = sym (length-take-le n list (f .few))
+
+pub front-inside : {k n : ℕ} {list rows : List ℕ} → Front n list rows → Inside k rows → Inside k (take n list)
+front-inside {k} f h = subst (Inside k) (sym (f .are)) h
+
+-- what a step makes of it is what it makes of those rows
+pub front-of : (step : List ℕ → List ℕ) {n m : ℕ} {list other rows : List ℕ} → Front n list rows → Front m other (step (take n list)) → Front m other (step rows)
+front-of step f g = front-is g (ap step (f .are))
+
+-- what a step leaves of the front that is lent to it is the front of the whole list
+pub front-next : (step : List ℕ → List ℕ) {n m : ℕ} {list lent rows : List ℕ}
+    → Front n list rows → Front m lent (step (take n list)) → Front m (lent ++ drop n list) (step rows)
+front-next step {n} {m} {list} {lent} f g = record {
+  few = omega (arith, g .few, length-append lent (drop n list));
+  are = take-append-le m lent (drop n list) (g .few) ∙ front-of step f g .are;
+}
+
+-- a front of room that holds one thing
+pub front-blank : {A : Type 0} (a : A) (n most : ℕ) → n ≤ most → take n (replicate most a) ≡ replicate n a
+front-blank a zero most l = refl
+front-blank a (suc n) zero l = absurd (not-suc-le-zero l)
+front-blank a (suc n) (suc most) l = ap (λ (rest : List _). a ∷ rest) (front-blank a n most (omega arith))
+
 -- A loop at place i of a list: what is asked, `goal`, is f of the rows from there on.
 pub record Along {A : Type 0} (goal : A) (f : List ℕ → A) (rows : List ℕ) (i : ℕ) : Type 0 where
   pub within : i ≤ length rows
@@ -196,7 +257,7 @@ module _ {f : ℕ → ℕ} {rows key₀ : List ℕ} where
 
     -- so keeping the rows with the least of what was stored is keeping those with the least of what it was computed by
     pub keyed-least : {n : ℕ} {list : List ℕ} → length rows ≤ i → Front n list (keepLeast (column key) rows) → Front n list (keepLeast f rows)
-    keyed-least l e = record { few = e .few; are = e .are ∙ keepLeast-agree (column key) f rows (keyed-all l) }
+    keyed-least l e = front-is e (keepLeast-agree (column key) f rows (keyed-all l))
 
 -- ---- a loop that sets the flag of each row of a list
 pub record Marks (rows : List ℕ) (flags₀ : List Bool) (i : ℕ) (flags : List Bool) : Type 0 where
@@ -230,57 +291,6 @@ span-at n i l = rw (← map-id (span 0 n)) (table-at (λ k. k) 0 n i l)
 
 pub all-listed : {n : ℕ} {xs₀ xs : List ℕ} {i : ℕ} → Stored 0 (λ k. k) n xs₀ i xs → n ≤ i → xs ≡ span 0 n
 all-listed {n} s l = stored-end s l ∙ map-id (span 0 n)
-
--- ---- rows inside columns
-
-in-at : (rows : List ℕ) (i : ℕ) → i < length rows → In (column rows i) rows
-in-at [] i l = absurd (not-suc-le-zero l)
-in-at (p ∷ rows) zero l = here refl
-in-at (p ∷ rows) (suc i) l = there (in-at rows i (omega arith))
-
-inside-in : {n q : ℕ} (rows : List ℕ) → Inside n rows → In q rows → q < n
-inside-in [] h m = absurd (nowhere m)
-inside-in {n} {q} (p ∷ rows) h m =
-    ⊎-elim (λ e. let b = h .below 0 (omega arith) in omega arith) (inside-in rows (record { below = λ i l. h .below (suc i) (omega arith) })) (in-cases m)
-
--- members of rows that are inside are inside; so are those that a step keeps
-pub inside-part : {n : ℕ} {rows others : List ℕ} → Inside n rows → ((q : ℕ) → In q others → In q rows) → Inside n others
-inside-part {rows} {others} h part = record { below = λ i l. inside-in rows h (part (column others i) (in-at others i l)) }
-
-pub inside-step : {n : ℕ} {good : ℕ → ℕ → Type 0} {step : List ℕ → List ℕ} → Picks good step → (rows : List ℕ) → Inside n rows → Inside n (step rows)
-inside-step p rows h = inside-part h (λ q m. p .from rows m)
-
-pub inside-span : (n : ℕ) → Inside n (span 0 n)
-inside-span n = record { below = λ i l. omega (arith, in-span 0 n (in-at (span 0 n) i l)) }
-
--- columns of one length
-pub inside-long : {m n : ℕ} {rows : List ℕ} → Inside m rows → n ≡ m → Inside n rows
-inside-long h e = record { below = λ i l. omega (arith, h .below i l) }
-
--- ---- the front of a list
-
--- all of it
-pub front-all : (rows : List ℕ) → Front (length rows) rows rows
-front-all rows = record { few = le-refl (length rows); are = take-length rows }
-
--- it is as long as it says, and its rows are inside where those that it holds are
-pub front-long : {n : ℕ} {list rows : List ℕ} → Front n list rows → n ≡ length (take n list)
-front-long {n} {list} f = sym (length-take-le n list (f .few))
-
-pub front-inside : {k n : ℕ} {list rows : List ℕ} → Front n list rows → Inside k rows → Inside k (take n list)
-front-inside {k} f h = subst (Inside k) (sym (f .are)) h
-
--- what a step makes of it is what it makes of those rows
-pub front-of : (step : List ℕ → List ℕ) {n m : ℕ} {list other rows : List ℕ} → Front n list rows → Front m other (step (take n list)) → Front m other (step rows)
-front-of step f g = record { few = g .few; are = g .are ∙ ap step (f .are) }
-
--- what a step leaves of the front that is lent to it is the front of the whole list
-pub front-next : (step : List ℕ → List ℕ) {n m : ℕ} {list lent rows : List ℕ}
-    → Front n list rows → Front m lent (step (take n list)) → Front m (lent ++ drop n list) (step rows)
-front-next step {n} {m} {list} {lent} f g = record {
-  few = omega (arith, g .few, length-append lent (drop n list));
-  are = take-append-le m lent (drop n list) (g .few) ∙ front-of step f g .are;
-}
 
 -- ---- rows that filters leave of all rows are the rows of their flags
 pub marked-rows : (n : ℕ) {rows : List ℕ} {flags₀ flags : List Bool} → Filtered rows (span 0 n) → flags₀ ≡ replicate n false

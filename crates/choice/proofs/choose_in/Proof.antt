@@ -1,7 +1,7 @@
 -- `choice::choose_in` meets its contract. The eight steps, each on the front that the one before it left. Assumes nothing.
 use Prim.Native.Nat.{ℕ}
 use native.Mathlib.Omega.{arith}
-use mathlib.Core.Path.{ap, _∙_}
+use mathlib.Core.Path.{refl, ap, _∙_}
 use mathlib.Core.List.{List, _++_}
 use lib.ListN.{length, getD, drop}
 use lib.Seq.{length-front}
@@ -20,7 +20,7 @@ use Rattle.choice.proofs.choose_in.Tie as tie
 -- what each step leaves is inside the columns
 module _ (M : Mesh) (held : List ℕ) (r : ℕ) where
   inside-available : Inside (M .rows) (available M held r)
-  inside-available = inside-part (inside-span (M .rows)) (available-all M held r)
+  inside-available = inside-part (inside-span (M .rows) refl) (available-all M held r)
 
   inside-preferred : Inside (M .rows) (preferred M (available M held r))
   inside-preferred = inside-step (picks-preferred M) (available M held r) inside-available
