@@ -1,5 +1,6 @@
--- Laws by which a loop along a list of rows is proved. It goes from place 0 up, and its invariant speaks of the rows that are left,
--- `drop i rows`. So a turn takes one row off the front, as the definitions of `Rows` do.
+-- Laws of rows kept as a list: rows inside columns, the front of a list, and the loops along one. Such a loop goes from place 0 up,
+-- and its invariant speaks of the rows that are left, `drop i rows`. So a turn takes one row off the front, as the definitions of
+-- `Rows` do.
 use Prim.Native.Nat.{ℕ, zero, suc, _+_, _≤_, _<_, max, zero-le}
 use native.Mathlib.Nat.{le-refl, not-suc-le-zero}
 use native.Mathlib.Numerals.{add-one}
@@ -87,6 +88,8 @@ pub front-blank : {A : Type 0} (a : A) (n most : ℕ) → n ≤ most → take n 
 front-blank a zero most l = refl
 front-blank a (suc n) zero l = absurd (not-suc-le-zero l)
 front-blank a (suc n) (suc most) l = ap (λ (rest : List _). a ∷ rest) (front-blank a n most (omega arith))
+
+-- ---- loops
 
 -- A loop at place i of a list: what is asked, `goal`, is f of the rows from there on.
 pub record Along {A : Type 0} (goal : A) (f : List ℕ → A) (rows : List ℕ) (i : ℕ) : Type 0 where
