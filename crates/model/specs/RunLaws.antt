@@ -174,6 +174,7 @@ module _ (C : Contest) (own : ℕ → List ℕ) (order : List ℕ) (s : Listed C
   own-length r l = ap length (s .runs r l) ∙ sym (count-length (mine r) order) ∙ s .same (mine r)
 
   passed-runs : (x : List ℕ) (n : ℕ) → n ≤ C .owners → passedRows own x n ≡ keep (isPassed x) (runsBelow (C .owner) order n)
+  unfolding passedRows
   passed-runs x zero l = refl
   passed-runs x (suc n) l =
       let run : take (suc (column x n)) (own n) ≡ keep (isPassed x) (keep (mine n) order) =
