@@ -124,7 +124,7 @@ runsBelow key rows (suc n) = runsBelow key rows n ++ keep (λ q. eqb (key q) n) 
 
 module _ (key : ℕ → ℕ) (less : ℕ → ℕ → Bool) (rises : (p q : ℕ) → T (less p q) → key p ≤ key q) where
   -- in order the keys rise, so those with the least key come first
-  run-next : (n : ℕ) (rows : List ℕ) → Ordered less rows → keep (λ q. leb n (key q)) rows ≡ keep (λ q. eqb (key q) n) rows ++ keep (λ q. leb (suc n) (key q)) rows
+  pub run-next : (n : ℕ) (rows : List ℕ) → Ordered less rows → keep (λ q. leb n (key q)) rows ≡ keep (λ q. eqb (key q) n) rows ++ keep (λ q. leb (suc n) (key q)) rows
   run-next n [] o = refl
   run-next n (p ∷ rows) o =
       let ih = run-next n rows (o .1) in
