@@ -213,10 +213,15 @@ ordered-keep less less′ test (p ∷ rows) f o = go (test p) refl (ordered-keep
 -- ---- the order by router, then own order
 
 module _ (M : Mesh) where
+  -- p comes before q in the list of all routers' contenders
   abbrev inOrder : ℕ → ℕ → Bool
   inOrder = orderBy (M .router) (M .nid) (M .peer)
 
-  order-cases : (p q : ℕ) → T (inOrder p q) → (M .router p < M .router q) ⊎ ((M .router p ≡ M .router q) × T (before M p q))
+  -- of a lower router, or of the same and ahead in its own order
+  abbrev Cases : ℕ → ℕ → Type 0
+  Cases p q = (M .router p < M .router q) ⊎ ((M .router p ≡ M .router q) × T (before M p q))
+
+  order-cases : (p q : ℕ) → T (inOrder p q) → Cases p q
   order-cases p q t = elim (or-cases (ltb (M .router p) (M .router q)) (eqb (M .router p) (M .router q) && before M p q) t) [
     | inl l ↦ inl (ltb→lt (M .router p) (M .router q) l)
     | inr e ↦ inr (eqb→eq (M .router p) (M .router q) (and-left (eqb (M .router p) (M .router q)) (before M p q) e), and-right (eqb (M .router p) (M .router q)) (before M p q) e)
@@ -238,9 +243,6 @@ module _ (M : Mesh) where
   order-chains : (a b c : ℕ) → T (inOrder a b) → T (inOrder b c) → T (inOrder a c)
   order-chains a b c s t = go (order-cases a b s) (order-cases b c t)
     where
-      Cases : ℕ → ℕ → Type 0
-      Cases p q = (M .router p < M .router q) ⊎ ((M .router p ≡ M .router q) × T (before M p q))
-
       go : Cases a b → Cases b c → T (inOrder a c)
       go (inl h) k = order-router a c (omega (arith, order-rises b c t))
       go (inr h) (inl k) = order-router a c (omega (arith, h .0))
@@ -295,17 +297,16 @@ module _ (M : Mesh) (sound : Sound M) where
       length-append (runsBelow (M .router) order r) (keep (ownOf M r) order),
     )
 
+    from-start : (r : ℕ) → r ≤ M .routers → drop (startOf ends r) order ≡ keep (λ q. leb r (M .router q)) order
+    from-start r l =
+        ap (drop (startOf ends r)) (runs-split (M .router) (inOrder M) (order-rises M) r order order-ordered)
+        ∙ drop-at (runsBelow (M .router) order r) (keep (λ q. leb r (M .router q)) order) (startOf ends r) (sym (start-at r l))
+
     -- the rows of a router are one run of the list
     own-run : (r : ℕ) → r < M .routers → ownRows order ends r ≡ keep (ownOf M r) order
     own-run r l =
-        let front = runsBelow (M .router) order r in
-        let rest = keep (λ q. leb (suc r) (M .router q)) order in
-        ap (take (column ends r)) (
-          ap (drop (startOf ends r)) (runs-split (M .router) (inOrder M) (order-rises M) r order order-ordered)
-          ∙ drop-at front (keep (λ q. leb r (M .router q)) order) (startOf ends r) (sym (start-at r (omega arith)))
-          ∙ run-next (M .router) (inOrder M) (order-rises M) r order order-ordered
-        )
-        ∙ take-at (keep (ownOf M r) order) rest (column ends r) (sym (ends-at r l ∙ count-length (ownOf M r) order))
+        ap (take (column ends r)) (from-start r (omega arith) ∙ run-next (M .router) (inOrder M) (order-rises M) r order order-ordered)
+        ∙ take-at (keep (ownOf M r) order) (keep (λ q. leb (suc r) (M .router q)) order) (column ends r) (sym (ends-at r l ∙ count-length (ownOf M r) order))
 
     -- in it each stands at its place
     own-places : (r : ℕ) → r < M .routers → Places (placeOf M) 0 (ownRows order ends r)
@@ -327,19 +328,22 @@ module _ (M : Mesh) (sound : Sound M) where
     -- the row at a place of a router is the contender that stands there
     stands-at : (x : List ℕ) (r : ℕ) → r < M .routers → standsAt order ends x r ≡ atPlace M x r
     stands-at x r l =
-        let k = column x r in
-        let own = ownRows order ends r in
-        let here : ℕ → Bool = λ q. eqb (placeOf M q) k in
-        at-places (placeOf M) none k 0 own (own-places r l)
+        at-places (placeOf M) none k 0 (ownRows order ends r) (own-places r l)
         (λ q m. not-past M sound (order-all q (keep-in (ownOf M r) order (subst (In q) (own-run r l) m) .0)))
-        ∙ ap₂ (λ (n : ℕ) (rows : List ℕ). leastOr none (λ q. q) (keep (λ q. eqb (placeOf M q) n) rows)) (omega arith) (own-run r l)
-        ∙ ap (leastOr none (λ q. q)) (keep-keep here (ownOf M r) order)
-        ∙ leastOr-same none (λ q. q) (λ q. ownOf M r q && here q) order (contending M) order-same
-        ∙ ap (leastOr none (λ q. q)) (
-          sym (keep-keep here (ownOf M r) (contending M))
-          ∙ ap (keep here) (contenders-items M r)
-          ∙ keep-agree here (λ q. eqb (standing M r q) k) (contenders M r) (λ q m. ap (λ (n : ℕ). eqb n k) (place-standing M r m))
-        )
+        ∙ ap₂ (λ (n : ℕ) (rows : List ℕ). low (keep (λ q. eqb (placeOf M q) n) rows)) (omega arith) (own-run r l)
+        ∙ ap low (keep-keep there (ownOf M r) order)
+        ∙ leastOr-same none (λ q. q) (λ q. ownOf M r q && there q) order (contending M) order-same
+        ∙ ap low (sym (keep-keep there (ownOf M r) (contending M)) ∙ ap (keep there) (contenders-items M r))
+        ∙ ap low (keep-agree there (λ q. eqb (standing M r q) k) (contenders M r) (λ q m. ap (λ (n : ℕ). eqb n k) (place-standing M r m)))
+      where
+        k : ℕ
+        k = column x r
+
+        low : List ℕ → ℕ
+        low = leastOr none (λ q. q)
+
+        there : ℕ → Bool
+        there q = eqb (placeOf M q) k
 
     -- rounds lead where they lead in the contest, with any test that agrees on what beats what
     module _ (beat : ℕ → ℕ → Bool) (agree : (q : ℕ) → In q (contending M) → Agree (λ p. beat p q) (λ p. beats M p q) (contending M)) where
@@ -348,7 +352,7 @@ module _ (M : Mesh) (sound : Sound M) where
           ∙ table-same (column ends) (end (contest M)) (M .routers) (λ r l. ends-at r l ∙ order-same (ownOf M r))
       start-is false = ap (λ (n : ℕ). table n (λ r. 0)) ends-length
 
-      pub rest-is : (late : Bool)
+      rest-is : (late : Bool)
           → table (length ends) (standsAt order ends (times (roundBy beat (ownRows order ends) (length ends)) (length order) (table (length ends) (startBy late ends))))
           ≡ table (M .routers) (atPlace M (repeat (contest M) (length (contending M)) (cond late (top (contest M)) (bottom (contest M)))))
       rest-is late =

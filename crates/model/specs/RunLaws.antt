@@ -1,22 +1,23 @@
 -- A list that has the items of a contest owner after owner, each owner's by place: rounds along it are rounds of the contest.
-use Prim.Native.Nat.{ℕ, zero, suc, _+_, _≤_, _<_, min}
+use Prim.Native.Nat.{ℕ, zero, suc, _+_, _≤_, _<_}
 use native.Mathlib.Omega.{arith}
 use mathlib.Core.Path.{_≡_, refl, sym, ap, ap₂, subst, _∙_}
-use mathlib.Core.Logic.{_⊎_, inl, inr}
-use mathlib.Core.Bool.{Bool, true, false, cond, _&&_, not}
+use mathlib.Core.Logic.{inl, inr}
+use mathlib.Core.Bool.{Bool, true, _&&_, not}
 use mathlib.Core.List.{List, [], _∷_, _++_, append-assoc, append-nil}
 use lib.Dec.{T, eqb, ltb, leb, eqb→eq, leb→le}
 use lib.ListN.{length, getD, take}
 use borrow.Author.Tests.{eqb-true, eqb-false, leb-true, leb-false, eq-eqb, ne-eqb, lt-ltb, le-leb, lt-leb}
-use Rattle.model.specs.Rows.{keep, some, count, table, column}
+use Rattle.model.specs.Rows.{keep, some, count, column}
 use Rattle.model.specs.RowLaws.{by, In, here, there, nowhere, in-cases, empty-of, in-keep, keep-in, keep-keep, keep-all, some-kept, Agree, keep-agree, some-agree, count-all, count-length, table-same}
 use Rattle.model.specs.Contest.{Contest, leastOr, end, passed, firstFree, refine}
 use Rattle.model.specs.LeastLaws.{leastOr-past, leastOr-le, le-leastOr}
 use Rattle.model.specs.OrderLaws.{Ordered, ordered-first, ordered-later}
 use Rattle.model.specs.Listing.{passedRows, firstPlace, roundBy}
 
--- ---- two lists with the same members, in any order
+-- ---- two lists with the same members
 
+-- as many members of each kind
 abbrev pub Same : List ℕ → List ℕ → Type 0
 Same a b = (test : ℕ → Bool) → count test a ≡ count test b
 
@@ -30,7 +31,7 @@ leastOr-part : (past : ℕ) (key : ℕ → ℕ) (a b : List ℕ) → ((q : ℕ) 
 leastOr-part past key a b f = le-leastOr past key b (leastOr-past past key a) (λ q m. leastOr-le past key a (f q m))
 
 module _ (a b : List ℕ) (same : Same a b) where
-  pub some-same : (test : ℕ → Bool) → some test a ≡ some test b
+  some-same : (test : ℕ → Bool) → some test a ≡ some test b
   some-same test = some-count test a ∙ ap (ltb 0) (same test) ∙ sym (some-count test b)
 
   pub in-same : (q : ℕ) → In q a → In q b
@@ -39,7 +40,7 @@ module _ (a b : List ℕ) (same : Same a b) where
   pub length-same : length a ≡ length b
   length-same = sym (count-all a) ∙ same (λ q. true) ∙ count-all b
 
-  pub keep-same : (test : ℕ → Bool) (q : ℕ) → In q (keep test a) → In q (keep test b)
+  keep-same : (test : ℕ → Bool) (q : ℕ) → In q (keep test a) → In q (keep test b)
   keep-same test q m = let k = keep-in test a m in in-keep test b (in-same q (k .0)) (k .1)
 
 pub leastOr-same : (past : ℕ) (key : ℕ → ℕ) (test : ℕ → Bool) (a b : List ℕ) → Same a b → leastOr past key (keep test a) ≡ leastOr past key (keep test b)
@@ -50,8 +51,9 @@ leastOr-same past key test a b same =
       leastOr-part past key (keep test b) (keep test a) (keep-same a b same test),
     )
 
--- ---- a list by place: the keys are from, from + 1, ..
+-- ---- a list by place
 
+-- the keys of the members are from, from + 1, ..
 abbrev pub Places : (ℕ → ℕ) → ℕ → List ℕ → Type 0
 Places key from [] = Unit {0}
 Places key from (q ∷ rows) = (key q ≡ from) × Places key (suc from) rows
@@ -69,7 +71,7 @@ module _ (key : ℕ → ℕ) where
   places-none test from rows p f = empty-of (keep test rows) (λ q m. let k = keep-in test rows m in omega (arith, f q (k .1), places-low from rows p (k .0)))
 
   -- the first place of a list is the least place
-  pub first-least : (test : ℕ → Bool) (from : ℕ) (rows : List ℕ) → Places key from rows → from + firstPlace test rows ≡ leastOr (from + length rows) key (keep test rows)
+  first-least : (test : ℕ → Bool) (from : ℕ) (rows : List ℕ) → Places key from rows → from + firstPlace test rows ≡ leastOr (from + length rows) key (keep test rows)
   first-least test from [] p = refl
   first-least test from (q ∷ rows) p =
       let past = from + suc (length rows) in
@@ -80,7 +82,7 @@ module _ (key : ℕ → ℕ) where
       by (test q) (λ h. rw h (omega (arith, p .0))) (λ h. rw h (omega arith))
 
   -- the front of it is told by place
-  pub take-places : (k from : ℕ) (rows : List ℕ) → Places key from rows → take (suc k) rows ≡ keep (λ q. leb (key q) (from + k)) rows
+  take-places : (k from : ℕ) (rows : List ℕ) → Places key from rows → take (suc k) rows ≡ keep (λ q. leb (key q) (from + k)) rows
   take-places k from [] p = refl
   take-places zero from (q ∷ rows) p =
       rw (le-leb (key q) (from + 0) (omega (arith, p .0)), places-none (λ z. leb (key z) (from + 0)) (suc from) rows (p .1) (λ z t. omega (arith, leb→le (key z) (from + 0) t)))
@@ -113,7 +115,7 @@ module _ (key : ℕ → ℕ) where
 
 -- ---- the runs of a list, key after key
 
-pub keep-append : (test : ℕ → Bool) (a b : List ℕ) → keep test (a ++ b) ≡ keep test a ++ keep test b
+keep-append : (test : ℕ → Bool) (a b : List ℕ) → keep test (a ++ b) ≡ keep test a ++ keep test b
 keep-append test [] b = refl
 keep-append test (q ∷ a) b = by (test q) (λ e. rw (e, keep-append test a b)) (λ e. rw (e, keep-append test a b))
 
@@ -123,21 +125,23 @@ runsBelow key rows zero = []
 runsBelow key rows (suc n) = runsBelow key rows n ++ keep (λ q. eqb (key q) n) rows
 
 module _ (key : ℕ → ℕ) (less : ℕ → ℕ → Bool) (rises : (p q : ℕ) → T (less p q) → key p ≤ key q) where
-  -- in order the keys rise, so those with the least key come first
+  run-none : (n p : ℕ) (rows : List ℕ) → Ordered less (p ∷ rows) → n < key p → keep (λ q. eqb (key q) n) rows ≡ []
+  run-none n p rows o l = empty-of (keep (λ q. eqb (key q) n) rows)
+      (λ q m. let k = keep-in (λ q. eqb (key q) n) rows m in omega (arith, rises p q (o .0 q (k .0)), eqb→eq (key q) n (k .1)))
+
+  -- in order the keys rise, so of those from n on the ones with n come first
   pub run-next : (n : ℕ) (rows : List ℕ) → Ordered less rows → keep (λ q. leb n (key q)) rows ≡ keep (λ q. eqb (key q) n) rows ++ keep (λ q. leb (suc n) (key q)) rows
   run-next n [] o = refl
   run-next n (p ∷ rows) o =
       let ih = run-next n rows (o .1) in
+      let on = ap (λ (xs : List ℕ). p ∷ xs) ih in
       by (eqb (key p) n)
-      (λ e. let k = eqb-true (key p) n e in rw (e, le-leb n (key p) (omega arith), lt-leb (suc n) (key p) (omega arith)) (ap (λ (xs : List ℕ). p ∷ xs) ih))
+      (λ e. let k = eqb-true (key p) n e in rw (e, le-leb n (key p) (omega arith), lt-leb (suc n) (key p) (omega arith)) on)
       (λ e. let k = eqb-false (key p) n e in
       by (leb n (key p))
-      (λ l. let m = leb-true n (key p) l in
-      let none : keep (λ q. eqb (key q) n) rows ≡ [] = empty-of (keep (λ q. eqb (key q) n) rows)
-          (λ q i. let j = keep-in (λ q. eqb (key q) n) rows i in omega (arith, k, rises p q (o .0 q (j .0)), eqb→eq (key q) n (j .1))) in
-      rw (e, l, le-leb (suc n) (key p) (omega (arith, k)), none)
-      (ap (λ (xs : List ℕ). p ∷ xs) (ih ∙ ap (λ (xs : List ℕ). xs ++ keep (λ q. leb (suc n) (key q)) rows) none)))
-      (λ l. let m = leb-false n (key p) l in rw (e, l, lt-leb (suc n) (key p) (omega arith)) ih))
+      (λ l. let h : n < key p = omega (arith, k, leb-true n (key p) l) in
+      rw (e, l, le-leb (suc n) (key p) h, run-none n p rows o h) (rw (run-none n p rows o h) at on))
+      (λ l. rw (e, l, lt-leb (suc n) (key p) (omega (arith, leb-false n (key p) l))) ih))
 
   pub runs-split : (n : ℕ) (rows : List ℕ) → Ordered less rows → rows ≡ runsBelow key rows n ++ keep (λ q. leb n (key q)) rows
   runs-split zero rows o = sym (keep-agree (λ q. leb 0 (key q)) (λ q. true) rows (λ q m. le-leb 0 (key q) (omega arith)) ∙ keep-all rows)
@@ -164,30 +168,33 @@ pub record Listed (C : Contest) (own : ℕ → List ℕ) (order : List ℕ) : Ty
   pub places : (r : ℕ) → r < C .owners → Places (C .place) 0 (own r)
 
 module _ (C : Contest) (own : ℕ → List ℕ) (order : List ℕ) (s : Listed C own order) where
+  -- q is an item of r's
   abbrev mine : ℕ → ℕ → Bool
   mine r q = eqb (C .owner q) r
 
+  -- q is at or before the place that its owner has
   abbrev isPassed : List ℕ → ℕ → Bool
   isPassed x q = leb (C .place q) (column x (C .owner q))
 
-  pub own-length : (r : ℕ) → r < C .owners → length (own r) ≡ end C r
+  own-length : (r : ℕ) → r < C .owners → length (own r) ≡ end C r
   own-length r l = ap length (s .runs r l) ∙ sym (count-length (mine r) order) ∙ s .same (mine r)
+
+  run-passed : (x : List ℕ) (n : ℕ) → n < C .owners → take (suc (column x n)) (own n) ≡ keep (isPassed x) (keep (mine n) order)
+  run-passed x n l =
+      take-places (C .place) (column x n) 0 (own n) (s .places n l)
+      ∙ ap₂ (λ (k : ℕ) (rows : List ℕ). keep (λ q. leb (C .place q) k) rows) (omega arith) (s .runs n l)
+      ∙ keep-agree (λ q. leb (C .place q) (column x n)) (isPassed x) (keep (mine n) order)
+      (λ q m. ap (λ (o : ℕ). leb (C .place q) (column x o)) (sym (eqb→eq (C .owner q) n (keep-in (mine n) order m .1))))
 
   passed-runs : (x : List ℕ) (n : ℕ) → n ≤ C .owners → passedRows own x n ≡ keep (isPassed x) (runsBelow (C .owner) order n)
   unfolding passedRows
   passed-runs x zero l = refl
   passed-runs x (suc n) l =
-      let run : take (suc (column x n)) (own n) ≡ keep (isPassed x) (keep (mine n) order) =
-          take-places (C .place) (column x n) 0 (own n) (s .places n l)
-          ∙ ap (λ (k : ℕ). keep (λ q. leb (C .place q) k) (own n)) (omega arith)
-          ∙ ap (keep (λ q. leb (C .place q) (column x n))) (s .runs n l)
-          ∙ keep-agree (λ q. leb (C .place q) (column x n)) (isPassed x) (keep (mine n) order)
-          (λ q m. ap (λ (o : ℕ). leb (C .place q) (column x o)) (sym (eqb→eq (C .owner q) n (keep-in (mine n) order m .1)))) in
-      ap₂ (λ (a b : List ℕ). a ++ b) (passed-runs x n (omega arith)) run
+      ap₂ (λ (a b : List ℕ). a ++ b) (passed-runs x n (omega arith)) (run-passed x n l)
       ∙ sym (keep-append (isPassed x) (runsBelow (C .owner) order n) (keep (mine n) order))
 
   -- the rows passed are the items passed
-  pub passed-listed : (x : List ℕ) (test : ℕ → Bool) → some test (passedRows own x (C .owners)) ≡ some test (passed C x)
+  passed-listed : (x : List ℕ) (test : ℕ → Bool) → some test (passedRows own x (C .owners)) ≡ some test (passed C x)
   passed-listed x test =
       ap (some test) (passed-runs x (C .owners) (omega arith) ∙ ap (keep (isPassed x)) (sym (s .whole)))
       ∙ some-kept (isPassed x) test order
