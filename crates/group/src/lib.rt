@@ -1,16 +1,16 @@
 // Rows in groups, and step 4 by one pass over the rows: a row is out exactly when the lowest MED of its group is below its own. The
 // rounds of a contest look again and again at which rows are beaten, so they do it this way; `choice` has step 4 as document 01 does.
 ghost use mathlib.Core.Path.{_≡_};
-ghost use mathlib.Core.Bool.{_&&_, not};
+ghost use mathlib.Core.Bool.{not};
 ghost use Prim.Native.Nat.{ℕ, _≤_, _<_};
 ghost use lib.ListN.{length};
 ghost use lib.Dec.{eqb, ltb};
 ghost use Rattle.model.specs.Rows.{keep, table, column};
 ghost use Rattle.model.specs.Decision.{beatsBy, unbeatenBy};
 ghost use Rattle.model.specs.Contest.{leastOr};
-ghost use Rattle.model.specs.Lent.{was, is, col, on, rowsOf};
+ghost use Rattle.model.specs.Lent.{was, is, col, Inside, Front};
 ghost use Rattle.model.specs.Columns.{mostRows};
-ghost use Rattle.model.specs.Listing.{alikeBy, groupBy};
+ghost use Rattle.model.specs.Listing.{alikeBy, groupBy, firstPlace};
 
 // Whether p has what q has in two columns.
 fn alike(a: &[u32], b: &[u32], p: usize, q: usize) -> bool
@@ -43,45 +43,67 @@ pub fn groups(a: &[u32], b: &[u32], group: &mut [u32])
     }
 }
 
-// Lowers the number of each bucket to the least key of the kept rows in it.
-pub fn lower(bucket: &[u32], key: &[u32], kept: &[bool], low: &mut [u32])
-    requires { ⌜ (length (now bucket) ≡ length (now kept)) × (length (now key) ≡ length (now kept)) × ((q : ℕ) → q < length (now kept) → column (now bucket) q < length (now low)) ⌝ }
-    ensures { λ _. ⌜ ((k : ℕ) → column (is low) k ≡ leastOr (col low k) (col key) (keep (λ q. eqb (col bucket q) k) (rowsOf (was kept)))) ⌝ }
+// Lowers the number of each bucket to the least key of the listed rows in it.
+pub fn lower(bucket: &[u32], key: &[u32], rows: &[u16], low: &mut [u32])
+    requires { ⌜ Inside (length (now bucket)) (now rows) × (length (now key) ≡ length (now bucket)) × ((q : ℕ) → q < length (now bucket) → column (now bucket) q < length (now low)) ⌝ }
+    ensures { λ _. ⌜ ((k : ℕ) → column (is low) k ≡ leastOr (col low k) (col key) (keep (λ q. eqb (col bucket q) k) (was rows))) ⌝ }
 {
-    for q in 0..kept.len() {
+    for i in 0..rows.len() {
+        let q = rows::at(rows, i);
         let k = bucket[q] as usize;
-        if rows::lower(key, kept, q, low[k]) {
+        if key[q] < low[k] {
             low[k] = key[q];
             continue;
         }
     }
 }
 
-// Whether the kept row q has a MED no higher than the lowest of its group.
-fn spared(group: &[u32], med: &[u32], low: &[u32], kept: &[bool], q: usize) -> bool
-    requires { ⌜ (q < length (now kept)) × (length (now group) ≡ length (now kept)) × (length (now med) ≡ length (now kept)) × (column (now group) q < length (now low)) ⌝ }
-    ensures { λ r. ⌜ r ≡ (on (was kept) q && not (ltb (col low (col group q)) (col med q))) ⌝ }
+// Whether the row q has a MED no higher than the lowest of its group.
+fn spared(group: &[u32], med: &[u32], low: &[u32], q: usize) -> bool
+    requires { ⌜ (q < length (now group)) × (length (now med) ≡ length (now group)) × (column (now group) q < length (now low)) ⌝ }
+    ensures { λ r. ⌜ r ≡ not (ltb (col low (col group q)) (col med q)) ⌝ }
 {
     let k = group[q] as usize;
-    kept[q] & !(low[k] < med[q])
+    !(low[k] < med[q])
 }
 
-// Of the kept rows, those with a MED no higher than the lowest of their group.
-fn spare(group: &[u32], med: &[u32], low: &[u32], kept: &[bool], left: &mut [bool])
-    requires { ⌜ (length (now group) ≡ length (now kept)) × (length (now med) ≡ length (now kept)) × (length (now left) ≡ length (now kept)) × ((q : ℕ) → q < length (now kept) → column (now group) q < length (now low)) ⌝ }
-    ensures { λ _. ⌜ rowsOf (is left) ≡ keep (λ q. not (ltb (col low (col group q)) (col med q))) (rowsOf (was kept)) ⌝ }
+// Of the listed rows, those with a MED no higher than the lowest of their group: packed into the front of the list, so many.
+fn spare(group: &[u32], med: &[u32], low: &[u32], rows: &mut [u16]) -> usize
+    requires { ⌜ Inside (length (now group)) (now rows) × (length (now med) ≡ length (now group)) × ((q : ℕ) → q < length (now group) → column (now group) q < length (now low)) ⌝ }
+    ensures { λ n. ⌜ Front n (is rows) (keep (λ q. not (ltb (col low (col group q)) (col med q))) (was rows)) ⌝ }
 {
-    for q in 0..kept.len() {
-        left[q] = spared(group, med, low, kept, q);
+    let mut n: usize = 0;
+    for i in 0..rows.len() {
+        let q = rows[i];
+        if spared(group, med, low, q as usize) {
+            rows[n] = q;
+            n += 1;
+            continue;
+        }
     }
+    n
 }
 
-// Of the kept rows, those that none of the other rows beats: none of the same group has a lower MED.
-pub fn unbeaten(group: &[u32], med: &[u32], others: &[bool], kept: &[bool], left: &mut [bool])
-    requires { ⌜ (length (now group) ≡ length (now kept)) × (length (now med) ≡ length (now kept)) × (length (now others) ≡ length (now kept)) × (length (now left) ≡ length (now kept)) × ((q : ℕ) → q < length (now kept) → column (now group) q < mostRows) ⌝ }
-    ensures { λ _. ⌜ rowsOf (is left) ≡ unbeatenBy (beatsBy (col group) (col med)) (rowsOf (was others)) (rowsOf (was kept)) ⌝ }
+// The place of the first listed row with a MED no higher than the lowest of its group, or the end of the list.
+pub fn first_spared(group: &[u32], med: &[u32], low: &[u32], rows: &[u16]) -> u32
+    requires { ⌜ Inside (length (now group)) (now rows) × (length (now rows) ≤ mostRows) × (length (now med) ≡ length (now group)) × ((q : ℕ) → q < length (now group) → column (now group) q < length (now low)) ⌝ }
+    ensures { λ x. ⌜ x ≡ firstPlace (λ q. not (ltb (col low (col group q)) (col med q))) (was rows) ⌝ }
+{
+    for i in 0..rows.len() {
+        let q = rows::at(rows, i);
+        if spared(group, med, low, q) {
+            return i as u32;
+        }
+    }
+    rows.len() as u32
+}
+
+// Of the listed rows, those that no listed row beats: none of the same group has a lower MED. So many, in the front of the list.
+pub fn unbeaten(group: &[u32], med: &[u32], rows: &mut [u16]) -> usize
+    requires { ⌜ Inside (length (now group)) (now rows) × (length (now med) ≡ length (now group)) × ((q : ℕ) → q < length (now group) → column (now group) q < mostRows) ⌝ }
+    ensures { λ n. ⌜ Front n (is rows) (unbeatenBy (beatsBy (col group) (col med)) (was rows) (was rows)) ⌝ }
 {
     let mut low = rows::past();
-    lower(group, med, others, &mut low);
-    spare(group, med, &low, kept, left);
+    lower(group, med, rows, &mut low);
+    spare(group, med, &low, rows)
 }

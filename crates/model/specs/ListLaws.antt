@@ -1,7 +1,7 @@
 -- Laws of rows kept as a list: rows inside columns, the front of a list, and the loops along one. Such a loop goes from place 0 up,
 -- and its invariant speaks of the rows that are left, `drop i rows`. So a turn takes one row off the front, as the definitions of
 -- `Rows` do.
-use Prim.Native.Nat.{ℕ, zero, suc, _+_, _≤_, _<_, max, zero-le}
+use Prim.Native.Nat.{ℕ, zero, suc, _+_, _-_, _≤_, _<_, min, max, zero-le}
 use native.Mathlib.Nat.{le-refl, not-suc-le-zero}
 use native.Mathlib.Numerals.{add-one}
 use native.Mathlib.Omega.{arith}
@@ -10,12 +10,13 @@ use mathlib.Core.Logic.{_⊎_, inl, inr, ⊎-elim}
 use mathlib.Core.Bool.{Bool, true, false, _||_, or-true, or-false}
 use mathlib.Core.List.{List, [], _∷_, _++_, append-nil, map-id}
 use lib.Dec.{eqb}
-use lib.ListN.{length, getD, take, drop, set, replicate, length-set, length-append, length-replicate, getD-replicate, drop-of-length-le}
-use lib.Seq.{drop-cons, drop-drop, drop-set-lt, take-suc-set, take-append-le, take-length, length-take-le, append-snoc, getD-drop, getD-set-same, getD-set-other, ext-getD}
+use lib.ListN.{length, getD, take, drop, set, replicate, length-set, length-append, length-take, length-drop, length-replicate, getD-replicate, drop-of-length-le}
+use lib.Seq.{drop-cons, drop-drop, drop-set-lt, take-suc-set, take-append-le, take-length, length-take-le, append-snoc, getD-take, getD-drop, getD-set-same, getD-set-other, ext-getD}
 use borrow.Author.Tests.{eqb-true, eqb-false}
 use Rattle.model.specs.Rows.{keep, some, span, table, greatest, keepLeast, column}
 use Rattle.model.specs.Contest.{leastOr}
 use Rattle.model.specs.Lent.{on, rowsOf, Inside, Front}
+use Rattle.model.specs.Listing.{firstPlace}
 use Rattle.model.specs.RowLaws.{by, In, here, there, nowhere, in-cases, Agree, keep-agree, Filtered, filtered-self, in-span, table-length, table-at}
 use Rattle.model.specs.LeastLaws.{Picks, leastOr-past, leastOr-lower, keepLeast-agree}
 use Rattle.model.specs.LoopLaws.{Stored, stored-end}
@@ -35,7 +36,7 @@ in-at [] i l = absurd (not-suc-le-zero l)
 in-at (p ∷ rows) zero l = here refl
 in-at (p ∷ rows) (suc i) l = there (in-at rows i (omega arith))
 
-inside-in : {n q : ℕ} (rows : List ℕ) → Inside n rows → In q rows → q < n
+pub inside-in : {n q : ℕ} (rows : List ℕ) → Inside n rows → In q rows → q < n
 inside-in [] h m = absurd (nowhere m)
 inside-in {n} {q} (p ∷ rows) h m =
     ⊎-elim (λ e. let b = h .below 0 (omega arith) in omega arith) (inside-in rows (record { below = λ i l. h .below (suc i) (omega arith) })) (in-cases m)
@@ -49,6 +50,15 @@ inside-step p rows h = inside-part h (λ q m. p .from rows m)
 
 pub inside-span : {rows : List ℕ} (n : ℕ) → rows ≡ span 0 n → Inside n rows
 inside-span n e = subst (Inside n) (sym e) (record { below = λ i l. omega (arith, in-span 0 n (in-at (span 0 n) i l)) })
+
+-- so are those of a part of the list
+pub inside-take : {n : ℕ} {rows : List ℕ} (k : ℕ) → Inside n rows → Inside n (take k rows)
+inside-take {n} {rows} k h = record { below = λ i l. let m : i < min k (length rows) = subst (λ (z : ℕ). i < z) (length-take k rows) l in
+    let b = h .below i (omega arith) in rw (getD-take k rows i 0 (omega arith)) b }
+
+pub inside-drop : {n : ℕ} {rows : List ℕ} (k : ℕ) → Inside n rows → Inside n (drop k rows)
+inside-drop {n} {rows} k h = record { below = λ i l. let m : i < length rows - k = subst (λ (z : ℕ). i < z) (length-drop k rows) l in
+    let b = h .below (k + i) (omega arith) in rw (getD-drop k rows i 0) b }
 
 -- columns of one length
 pub inside-long : {m n : ℕ} {rows : List ℕ} → Inside m rows → n ≡ m → Inside n rows
@@ -149,6 +159,57 @@ module _ {past : ℕ} {key : ℕ → ℕ} {rows : List ℕ} where
 
       pub lower-on : k < low → Lower past key rows (i + 1) k
       lower-on h = record { at = along-next (s .at) l (λ rest. let m = leastOr-lower (key (column rows i)) low key rest (omega arith) in rw e m) }
+
+-- ---- a loop that lowers the number of each bucket to the least key of the rows in it, and has done so for those before place i
+pub record Lowers (bucket key : ℕ → ℕ) (rows low₀ : List ℕ) (i : ℕ) (low : List ℕ) : Type 0 where
+  pub long : length low ≡ length low₀
+  pub at : (k : ℕ) → Along (leastOr (column low₀ k) key (keep (λ q. eqb (bucket q) k) rows)) (λ rest. leastOr (column low k) key (keep (λ q. eqb (bucket q) k) rest)) rows i
+
+module _ {bucket key : ℕ → ℕ} {rows low₀ : List ℕ} where
+  pub lowers : Lowers bucket key rows low₀ 0 low₀
+  lowers = record { long = refl; at = λ k. along refl }
+
+  module _ {i : ℕ} {low : List ℕ} (s : Lowers bucket key rows low₀ i low) where
+    pub lowers-end : length rows ≤ i → (k : ℕ) → column low k ≡ leastOr (column low₀ k) key (keep (λ q. eqb (bucket q) k) rows)
+    lowers-end l k = sym (along-end (s .at k) l)
+
+    module _ {q : ℕ} (l : i < length rows) (e : q ≡ column rows i) where
+      pub lowers-off : column low (bucket q) ≤ key q → Lowers bucket key rows low₀ (i + 1) low
+      lowers-off h = record {
+        long = s .long;
+        at = λ k. along-next (s .at k) l (λ rest. rw (← e) (by (eqb (bucket q) k)
+            (λ same. rw same (omega (arith, ap (column low) (eqb-true (bucket q) k same), leastOr-past (column low k) key (keep (λ q. eqb (bucket q) k) rest))))
+            (λ other. rw other)));
+      }
+
+      pub lowers-on : {v : ℕ} → key q < column low (bucket q) → bucket q < length low → v ≡ key q → Lowers bucket key rows low₀ (i + 1) (set low (bucket q) v)
+      lowers-on {v} h m d = record {
+        long = length-set low (bucket q) v ∙ s .long;
+        at = λ k. along-next (s .at k) l (λ rest. rw (← e) (by (eqb (bucket q) k)
+            (λ same. let b = eqb-true (bucket q) k same in
+            let c : column (set low (bucket q) v) k ≡ key q = (rw (← b) (getD-set-same low (bucket q) v 0 m)) ∙ d in
+            rw (same, c) (leastOr-lower (key q) (column low k) key (keep (λ q. eqb (bucket q) k) rest) (omega (arith, ap (column low) b))))
+            (λ other. rw (other, getD-set-other low (bucket q) k v 0 (λ f. eqb-false (bucket q) k other (sym f))))));
+      }
+
+-- ---- a search for the place of the first row that passes: no row before place i does
+pub record Leads (test : ℕ → Bool) (rows : List ℕ) (i : ℕ) : Type 0 where
+  pub at : Along (firstPlace test rows) (λ rest. i + firstPlace test rest) rows i
+
+module _ {test : ℕ → Bool} {rows : List ℕ} where
+  pub leads : Leads test rows 0
+  leads = record { at = along (omega arith) }
+
+  module _ {i : ℕ} (s : Leads test rows i) where
+    pub leads-end : length rows ≤ i → length rows ≡ firstPlace test rows
+    leads-end l = omega (arith, along-end (s .at) l, s .at .within)
+
+    module _ {b : Bool} (l : i < length rows) (e : b ≡ test (column rows i)) where
+      pub leads-off : b ≡ false → Leads test rows (i + 1)
+      leads-off h = record { at = along-next (s .at) l (λ rest. rw (sym e ∙ h) (omega arith)) }
+
+      pub leads-hit : b ≡ true → i ≡ firstPlace test rows
+      leads-hit h = sym (along-hit (s .at) l (λ rest. rw (sym e ∙ h) (omega arith)))
 
 -- ---- the greatest key
 pub record Higher (key : ℕ → ℕ) (rows : List ℕ) (i high : ℕ) : Type 0 where

@@ -9,9 +9,8 @@ use denote.Ref.{now}
 use borrow.Author.Needs.{needs}
 use Rattle.model.specs.Rows.{keep, column}
 use Rattle.model.specs.Contest.{leastOr}
-use Rattle.model.specs.Lent.{rowsOf}
 use Rattle.model.specs.Columns.{mostRows, pastKeys}
-use Rattle.model.specs.ColumnLaws.{in-rows}
+use Rattle.model.specs.ListLaws.{inside-in, front-is}
 use Rattle.model.specs.ListingLaws.{unbeaten-low}
 use Rattle.group.proofs.unbeaten.Statement.{statement}
 use Rattle.group.proofs.unbeaten.Tie as tie
@@ -19,12 +18,12 @@ use Rattle.group.proofs.unbeaten.Tie as tie
 lower-requires : tie.Need-lower-requires
 lower-requires c κs =
     let start : tie.Start = search needs in
-    (search needs, search needs, λ q l. omega (arith, start .pre .4 q (omega arith)))
+    (start .pre .0, start .pre .1, λ q l. omega (arith, start .pre .2 q l))
 
 spare-requires : tie.Need-spare-requires
 spare-requires c κs =
     let start : tie.Start = search needs in
-    (search needs, search needs, search needs, λ q l. omega (arith, start .pre .4 q (omega arith)))
+    (start .pre .0, start .pre .1, λ q l. omega (arith, start .pre .2 q l))
 
 returns : tie.Need-returns
 returns c =
@@ -34,13 +33,14 @@ returns c =
     let lowered : tie.After-lower = search needs in
     let left : tie.After-spare = search needs in
     let a = start .args in
-    left .spare .ensures
-    ∙ unbeaten-low (column (now (a .group))) (column (now (a .med))) (column (lowered .lower .last .1 .1 .1 .0)) pastKeys (rowsOf (now (a .others))) (rowsOf (now (a .kept)))
+    let rows = now (a .rows) in
+    front-is (left .spare .ensures) (
+    unbeaten-low (column (now (a .group))) (column (now (a .med))) (column (lowered .lower .last .1 .1 .1 .0)) pastKeys rows rows
     (λ q. omega (arith, known .shared-slice-known2 .given q))
     (λ q m. let k = column (now (a .group)) q in
     lowered .lower .ensures k
-    ∙ ap (λ (start : ℕ). leastOr start (column (now (a .med))) (keep (λ p. eqb (column (now (a .group)) p) k) (rowsOf (now (a .others)))))
-    (ap (λ (low : List ℕ). column low k) (made .past .ensures) ∙ getD-replicate mostRows k pastKeys 0 (start .pre .4 q (in-rows (now (a .kept)) m))))
+    ∙ ap (λ (past : ℕ). leastOr past (column (now (a .med))) (keep (λ p. eqb (column (now (a .group)) p) k) rows))
+    (ap (λ (low : List ℕ). column low k) (made .past .ensures) ∙ getD-replicate mostRows k pastKeys 0 (start .pre .2 q (inside-in rows (start .pre .0) m)))))
 
 pub unbeaten-spec : {M : Type 1} → statement M
 unbeaten-spec =

@@ -1,42 +1,128 @@
--- `settle::advance` meets its contract. The table of least places starts past every end, so the lesser of both is the next place. Assumes nothing.
-use Prim.Native.Nat.{ℕ}
-use native.Mathlib.Omega.{arith}
-use mathlib.Core.Path.{ap, _∙_}
-use mathlib.Core.List.{List}
-use lib.Dec.{eqb}
-use lib.ListN.{getD-replicate}
-use denote.Ref.{now}
-use borrow.Author.Needs.{needs}
-use Rattle.model.specs.Rows.{keep, column}
-use Rattle.model.specs.Contest.{leastOr}
-use Rattle.model.specs.Lent.{rowsOf}
-use Rattle.model.specs.Columns.{mostRouters, pastKeys}
-use Rattle.model.specs.RoundLaws.{advanced}
 use Rattle.settle.proofs.advance.Statement.{statement}
 use Rattle.settle.proofs.advance.Tie as tie
+use Rattle.settle.proofs.advance.Reads as reads
+use Rattle.settle.proofs.advance.Lts as lts
+use Rattle.group.proofs.first_spared.Reads as first-spared-reads
 
-lower-requires : tie.Need-lower-requires
-lower-requires c κs =
-    let start : tie.Start = search needs in
-    (search needs, search needs, λ q l. omega (arith, start .pre .4 q l))
+abbrev Inv-loop : tie.InvT-loop
+Inv-loop order group med low ends state₀ from₀ moved₀ r₀ r-end state from moved r = ?
 
-returns : tie.Need-returns
-returns c =
-    let start : tie.Start = search needs in
-    let known : tie.After-shared-slice-known4 = search needs in
-    let made : tie.After-unplaced = search needs in
-    let lowered : tie.After-lower = search needs in
-    let done : tie.After-store = search needs in
-    let a = start .args in (
-      done .store .ensures .0
-          ∙ advanced (now (a .router)) (now (a .place)) (now (a .free)) (now (a .ends)) (column (lowered .lower .last .1 .1 .1 .0)) pastKeys
-          (λ r. omega (arith, known .shared-slice-known4 .given r))
-          (λ r l. lowered .lower .ensures r
-          ∙ ap (λ (start : ℕ). leastOr start (column (now (a .place))) (keep (λ q. eqb (column (now (a .router)) q) r) (rowsOf (now (a .free)))))
-          (ap (λ (next : List ℕ). column next r) (made .unplaced .ensures) ∙ getD-replicate mostRouters r pastKeys 0 (omega arith))),
-      done .store .ensures .1,
-    )
+abbrev μ-loop : tie.MeasureT-loop
+μ-loop order group med low ends state₀ from₀ moved₀ r₀ r-end state from moved r = ?
+
+-- src/lib.rt:63:5
+loop-holds : tie.Need-loop-holds Inv-loop μ-loop
+loop-holds c = ?
+
+-- src/lib.rt:64:25
+mul-to : tie.Need-mul-to Inv-loop μ-loop
+mul-to c = ?
+
+-- src/lib.rt:64:25
+shared-slice-read-to : tie.Need-shared-slice-read-to Inv-loop μ-loop
+shared-slice-read-to c = ?
+
+-- src/lib.rt:64:25
+cast-to : tie.Need-cast-to Inv-loop μ-loop
+cast-to c = ?
+
+-- src/lib.rt:64:18
+add-to : tie.Need-add-to Inv-loop μ-loop
+add-to c = ?
+
+-- src/lib.rt:65:58
+mul-first-spared : tie.Need-mul-first-spared Inv-loop μ-loop
+mul-first-spared c = ?
+
+-- src/lib.rt:65:58
+sub-first-spared : tie.Need-sub-first-spared Inv-loop μ-loop
+sub-first-spared c = ?
+
+-- src/lib.rt:65:58
+part-first-spared-start : tie.Need-part-first-spared-start Inv-loop μ-loop
+part-first-spared-start c = ?
+
+-- src/lib.rt:65:58
+part-first-spared-end : tie.Need-part-first-spared-end Inv-loop μ-loop
+part-first-spared-end c = ?
+
+-- src/lib.rt:65:13
+first-spared-requires : tie.Need-first-spared-requires Inv-loop μ-loop
+first-spared-requires c κs = ?
+
+-- src/lib.rt:67:21
+mul-if1 : tie.Need-mul-if1 Inv-loop μ-loop
+mul-if1 c = ?
+
+-- src/lib.rt:67:21
+slice-read-if1 : tie.Need-slice-read-if1 Inv-loop μ-loop
+slice-read-if1 c = ?
+
+-- src/lib.rt:68:13
+add-r : tie.Need-add-r Inv-loop μ-loop
+add-r c = ?
+
+-- src/lib.rt:63:5
+loop-less : tie.Need-loop-less Inv-loop μ-loop
+loop-less c = ?
+
+-- src/lib.rt:63:5
+loop-again : tie.Need-loop-again Inv-loop μ-loop
+loop-again c = ?
+
+-- src/lib.rt:70:9
+mul-state : tie.Need-mul-state Inv-loop μ-loop
+mul-state c = ?
+
+-- src/lib.rt:70:9
+slice-write-state : tie.Need-slice-write-state Inv-loop μ-loop
+slice-write-state c = ?
+
+-- src/lib.rt:63:9
+add-r-2 : tie.Need-add-r-2 Inv-loop μ-loop
+add-r-2 c = ?
+
+-- src/lib.rt:63:5
+loop-less-2 : tie.Need-loop-less-2 Inv-loop μ-loop
+loop-less-2 c = ?
+
+-- src/lib.rt:63:5
+loop-again-2 : tie.Need-loop-again-2 Inv-loop μ-loop
+loop-again-2 c = ?
+
+-- src/lib.rt:49:1
+same-length : tie.Need-same-length Inv-loop μ-loop
+same-length c = ?
+
+-- src/lib.rt:49:1
+returns : tie.Need-returns Inv-loop μ-loop
+returns c = ?
 
 pub advance-spec : {M : Type 1} → statement M
 advance-spec =
-    tie.close (tie.spec (λ c κs. search needs) (λ c. search needs) lower-requires (λ c. search needs) (λ c κs. search needs) (λ c. search needs) returns)
+    tie.close
+    (tie.spec
+    Inv-loop
+    μ-loop
+    loop-holds
+    mul-to
+    shared-slice-read-to
+    cast-to
+    add-to
+    mul-first-spared
+    sub-first-spared
+    part-first-spared-start
+    part-first-spared-end
+    first-spared-requires
+    mul-if1
+    slice-read-if1
+    add-r
+    loop-less
+    loop-again
+    mul-state
+    slice-write-state
+    add-r-2
+    loop-less-2
+    loop-again-2
+    same-length
+    returns)
