@@ -14,8 +14,12 @@ use Rattle.model.specs.NumberLaws.{le-or-lt}
 use Rattle.model.specs.RowLaws.{decide, and-both, and-left, and-right, eq→eqb, In, Some, in-keep, keep-in, some-in, in-some, table-length, table-at, tallies}
 use Rattle.model.specs.RowLaws.{_⊑_, table-⊑, total, total-mono, total-eq}
 use Rattle.model.specs.LeastLaws.{leastOr-past, leastOr-le, le-leastOr}
-use Rattle.model.specs.RoundLaws.{times-stays}
-use Rattle.model.specs.Contest.{Contest, end, passed, heldItems, firstFree, refine, calm, repeat, bottom, top, earliest, latest}
+use Rattle.model.specs.Contest.{times, Contest, end, passed, heldItems, firstFree, refine, calm, repeat, bottom, top, earliest, latest}
+
+-- what a step leaves as it is stays
+pub times-stays : (step : List ℕ → List ℕ) (n : ℕ) (x : List ℕ) → x ≡ step x → times step n x ≡ x
+times-stays step zero x e = refl
+times-stays step (suc n) x e = ap (times step n) (sym e) ∙ times-stays step n x e
 
 -- what the theorems ask of a contest
 pub record Fair (C : Contest) : Type 0 where

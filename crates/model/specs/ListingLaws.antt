@@ -4,7 +4,7 @@ use native.Mathlib.Omega.{arith}
 use mathlib.Core.Path.{_≡_, refl, sym, ap, ap₂, subst, _∙_, fun-ext}
 use mathlib.Core.Logic.{_⊎_, inl, inr, ⊎-elim, ⊎-swap}
 use mathlib.Core.Bool.{Bool, true, false, cond, _&&_, _||_, not, and-assoc, and-self, false≢true, true≢false}
-use mathlib.Core.List.{List, [], _∷_}
+use mathlib.Core.List.{List, [], _∷_, _++_}
 use lib.Dec.{T, eqb, ltb, leb, eqb→eq, ltb→lt, lt→ltb}
 use lib.ListN.{length, getD, take, drop, length-append}
 use lib.Seq.{take-at, drop-at}
@@ -14,17 +14,17 @@ use Rattle.model.specs.Rows.{keep, some, count, span, table, column}
 use Rattle.model.specs.Decision.{Mesh, none, all, ownOf, metric, beats, beatsBy, unbeatenBy, preferred}
 use Rattle.model.specs.DecisionLaws.{in-all, not-past, owned, picks-preferred}
 use Rattle.model.specs.Stability.{Sound, before, contenders, standing}
-use Rattle.model.specs.StabilityLaws.{before-irrefl, before-chains, contender-alike}
+use Rattle.model.specs.StabilityLaws.{before-irrefl, before-chains, row-alike}
 use Rattle.model.specs.Order.{insert}
 use Rattle.model.specs.OrderLaws.{count-insert, insert-in, Ordered, Comparable, insert-ordered, kept-comparable}
 use Rattle.model.specs.Contest.{leastOr, times, end, repeat, bottom, top, earliest, latest, beatsOwnBy, aheadBy, contending, placeOf, contest, atPlace}
 use Rattle.model.specs.EarlyLateLaws.{contenders-items, item-contender, place-standing}
 use Rattle.model.specs.Columns.{Columns, lentMesh, routesMesh, Fits, mostRows}
-use Rattle.model.specs.Listing.{alikeBy, groupBy, orderBy, arrangedOn, arrangedBy, startOf, ownRows, roundBy, startBy, settledBy, standsAt, Ready}
-use Rattle.model.specs.RowLaws.{by, both, or-cases, or-left, or-right, and-left, and-right, and-both, eq→eqb, In, here, there, nowhere, keep-in, keep-keep, count-kept, count-length, count-le, count-all}
+use Rattle.model.specs.Listing.{alikeBy, groupBy, orderBy, arrangedOn, arrangedBy, startOf, ownRows, unbeatenRuns, roundBy, startBy, settledBy, standsAt, Ready}
+use Rattle.model.specs.RowLaws.{by, both, or-cases, or-left, or-right, and-left, and-right, and-both, eq→eqb, In, here, there, nowhere, keep-in, keep-keep, some-kept, count-kept, count-length, count-le, count-all}
 use Rattle.model.specs.RowLaws.{Agree, keep-agree, some-agree, Filtered, filtered, filtered-keep, filtered-self, within, in-span, length-span, table-at, table-length, table-same}
 use Rattle.model.specs.ListLaws.{inside-part, inside-span, inside-long, span-at}
-use Rattle.model.specs.RunLaws.{Same, in-same, length-same, leastOr-same, Places, at-places, ordered-places, runsBelow, run-next, runs-split, runs-whole, Listed, round-listed}
+use Rattle.model.specs.RunLaws.{Same, some-same, in-same, length-same, keep-append, leastOr-same, Places, at-places, ordered-places, runsBelow, run-next, runs-split, runs-whole, Listed, round-listed, round-places}
 
 -- ---- groups
 
@@ -248,37 +248,40 @@ module _ (M : Mesh) where
       go (inr h) (inl k) = order-router a c (omega (arith, h .0))
       go (inr h) (inr k) = order-own a c (h .0 ∙ k .0) (before-chains M a b c (h .1) (k .1))
 
-  contending-all : Filtered (contending M) (all M)
-  contending-all = filtered-keep _ (filtered-keep _ (filtered-keep _ (filtered _ (all M))))
+  preferred-part : Filtered (preferred M (all M)) (all M)
+  preferred-part = filtered-keep _ (filtered-keep _ (filtered _ (all M)))
 
--- ---- the contenders of a prefix in that order
+  contending-part : Filtered (contending M) (all M)
+  contending-part = filtered-keep _ preferred-part
+
+-- ---- rows of a prefix in that order
 
 module _ (M : Mesh) (sound : Sound M) where
-  contending-comparable : Comparable (inOrder M) (contending M)
-  contending-comparable =
-      subst (Comparable (inOrder M)) (sym (filtered-self (contending-all M)))
-      (kept-comparable (inOrder M) (λ q. some (eqb q) (contending M)) 0 (M .rows)
+  comparable : (rows : List ℕ) → Filtered rows (all M) → Comparable (inOrder M) rows
+  comparable rows part =
+      subst (Comparable (inOrder M)) (sym (filtered-self part))
+      (kept-comparable (inOrder M) (λ q. some (eqb q) rows) 0 (M .rows)
       (λ p q l t u. by (eqb (M .router p) (M .router q))
       (λ e. let same = eqb-true (M .router p) (M .router q) e in
-      let m = subst (λ (r : ℕ). In p (contenders M r)) same (item-contender M {q = p} (record { found = t })) in
       ⊎-elim (λ h. inl (order-own M p q same h)) (λ h. inr (order-own M q p (sym same) h))
-      (contender-alike M sound (M .router q) m (item-contender M {q = q} (record { found = u })) (λ z. omega arith)))
+      (row-alike M sound (within {q = p} part (record { found = t })) (within {q = q} part (record { found = u })) same (λ z. omega arith)))
       (λ e. let other = eqb-false (M .router p) (M .router q) e in
       ⊎-elim (λ h. inr (order-router M q p (omega (arith, other)))) (λ h. inl (order-router M p q h)) (le-or-lt (M .router q) (M .router p)))))
 
-  -- `order` has them in order, and `ends` how many there are of each router
-  module _ (order ends : List ℕ) (e : order ≡ arrangedBy (inOrder M) (contending M)) (d : ends ≡ table (M .routers) (λ r. count (ownOf M r) order)) where
-    order-same : Same order (contending M)
-    order-same test = ap (count test) e ∙ count-arranged (inOrder M) test [] (contending M) ∙ omega arith
+  arranged-same : (rows : List ℕ) → Same (arrangedBy (inOrder M) rows) rows
+  arranged-same rows test = count-arranged (inOrder M) test [] rows ∙ omega arith
 
-    order-ordered : Ordered (inOrder M) order
-    order-ordered = subst (Ordered (inOrder M)) (sym e) (arranged-ordered (inOrder M) (order-chains M) [] (contending M) tt contending-comparable (λ p q m. absurd (nowhere m)))
+  arranged-in-order : (rows : List ℕ) → Filtered rows (all M) → Ordered (inOrder M) (arrangedBy (inOrder M) rows)
+  arranged-in-order rows part = arranged-ordered (inOrder M) (order-chains M) [] rows tt (comparable rows part) (λ p q m. absurd (nowhere m))
 
+  -- `order` has rows in order, and `ends` how many there are of each router
+  module _ (rows order ends : List ℕ) (part : Filtered rows (all M)) (same : Same order rows) (ordered : Ordered (inOrder M) order)
+      (d : ends ≡ table (M .routers) (λ r. count (ownOf M r) order)) where
     order-all : (q : ℕ) → In q order → In q (all M)
-    order-all q m = within (contending-all M) (in-same order (contending M) order-same q m)
+    order-all q m = within part (in-same order rows same q m)
 
     order-whole : order ≡ runsBelow (M .router) order (M .routers)
-    order-whole = runs-whole (M .router) (inOrder M) (order-rises M) (M .routers) order order-ordered (λ q m. owned M sound (order-all q m))
+    order-whole = runs-whole (M .router) (inOrder M) (order-rises M) (M .routers) order ordered (λ q m. owned M sound (order-all q m))
 
     ends-length : length ends ≡ M .routers
     ends-length = ap length d ∙ table-length (M .routers) (λ r. count (ownOf M r) order)
@@ -299,40 +302,89 @@ module _ (M : Mesh) (sound : Sound M) where
 
     from-start : (r : ℕ) → r ≤ M .routers → drop (startOf ends r) order ≡ keep (λ q. leb r (M .router q)) order
     from-start r l =
-        ap (drop (startOf ends r)) (runs-split (M .router) (inOrder M) (order-rises M) r order order-ordered)
+        ap (drop (startOf ends r)) (runs-split (M .router) (inOrder M) (order-rises M) r order ordered)
         ∙ drop-at (runsBelow (M .router) order r) (keep (λ q. leb r (M .router q)) order) (startOf ends r) (sym (start-at r l))
 
     -- the rows of a router are one run of the list
     own-run : (r : ℕ) → r < M .routers → ownRows order ends r ≡ keep (ownOf M r) order
     own-run r l =
-        ap (take (column ends r)) (from-start r (omega arith) ∙ run-next (M .router) (inOrder M) (order-rises M) r order order-ordered)
+        ap (take (column ends r)) (from-start r (omega arith) ∙ run-next (M .router) (inOrder M) (order-rises M) r order ordered)
         ∙ take-at (keep (ownOf M r) order) (keep (λ q. leb (suc r) (M .router q)) order) (column ends r) (sym (ends-at r l ∙ count-length (ownOf M r) order))
+
+  -- of the preferred rows in order, those of each router that no other of that router beats: the contenders in order
+  module _ (rows order counts : List ℕ) (e : rows ≡ arrangedBy (inOrder M) (preferred M (all M))) (d : counts ≡ table (M .routers) (λ r. count (ownOf M r) rows))
+      (o : order ≡ unbeatenRuns (beats M) (ownRows rows counts) (M .routers)) where
+    rows-same : Same rows (preferred M (all M))
+    rows-same test = ap (count test) e ∙ arranged-same (preferred M (all M)) test
+
+    rows-ordered : Ordered (inOrder M) rows
+    rows-ordered = subst (Ordered (inOrder M)) (sym e) (arranged-in-order (preferred M (all M)) (preferred-part M))
+
+    -- nothing of the same router beats it
+    abbrev alone : ℕ → Bool
+    alone q = not (some (λ p. beatsOwnBy (M .router) (M .asn) (metric M) p q) (preferred M (all M)))
+
+    run-alone : (r : ℕ) → r < M .routers → unbeatenBy (beats M) (ownRows rows counts r) (ownRows rows counts r) ≡ keep alone (keep (ownOf M r) rows)
+    run-alone r l =
+        ap (λ (own : List ℕ). unbeatenBy (beats M) own own) (own-run (preferred M (all M)) rows counts (preferred-part M) rows-same rows-ordered d r l)
+        ∙ keep-agree (λ q. not (some (λ p. beats M p q) (keep (ownOf M r) rows))) alone (keep (ownOf M r) rows) (λ q m. ap not (
+        some-kept (ownOf M r) (λ p. beats M p q) rows
+        ∙ ap (λ (k : ℕ). some (λ p. eqb (M .router p) k && beats M p q) rows) (sym (eqb→eq (M .router q) r (keep-in (ownOf M r) rows m .1)))
+        ∙ some-same rows (preferred M (all M)) rows-same (λ p. beatsOwnBy (M .router) (M .asn) (metric M) p q)))
+
+    runs-alone : (n : ℕ) → n ≤ M .routers → unbeatenRuns (beats M) (ownRows rows counts) n ≡ keep alone (runsBelow (M .router) rows n)
+    unfolding unbeatenRuns
+    runs-alone zero l = refl
+    runs-alone (suc n) l =
+        ap₂ (λ (a b : List ℕ). a ++ b) (runs-alone n (omega arith)) (run-alone n l)
+        ∙ sym (keep-append alone (runsBelow (M .router) rows n) (keep (ownOf M n) rows))
+
+    order-is : order ≡ keep alone rows
+    order-is = o ∙ runs-alone (M .routers) (omega arith) ∙ ap (keep alone) (sym (order-whole (preferred M (all M)) rows counts (preferred-part M) rows-same rows-ordered d))
+
+    contenders-same : Same order (contending M)
+    contenders-same test =
+        ap (count test) order-is
+        ∙ count-kept alone test rows
+        ∙ rows-same (λ q. alone q && test q)
+        ∙ sym (count-kept alone test (preferred M (all M)))
+
+    contenders-ordered : Ordered (inOrder M) order
+    contenders-ordered = subst (Ordered (inOrder M)) (sym order-is) (ordered-keep (inOrder M) (inOrder M) alone rows (λ p q t u h. h) rows-ordered)
+
+  -- `order` has the contenders in order
+  module _ (order ends : List ℕ) (same : Same order (contending M)) (ordered : Ordered (inOrder M) order) (d : ends ≡ table (M .routers) (λ r. count (ownOf M r) order)) where
+    own-run-here : (r : ℕ) → r < M .routers → ownRows order ends r ≡ keep (ownOf M r) order
+    own-run-here = own-run (contending M) order ends (contending-part M) same ordered d
+
+    ends-length-here : length ends ≡ M .routers
+    ends-length-here = ends-length (contending M) order ends (contending-part M) same ordered d
 
     -- in it each stands at its place
     own-places : (r : ℕ) → r < M .routers → Places (placeOf M) 0 (ownRows order ends r)
     own-places r l =
-        subst (Places (placeOf M) 0) (sym (own-run r l))
+        subst (Places (placeOf M) 0) (sym (own-run-here r l))
         (ordered-places (placeOf M) (before M) (before-chains M) (before-irrefl M) 0 (keep (ownOf M r) order)
-        (ordered-keep (inOrder M) (before M) (ownOf M r) order (λ p q t u. order-before M p q (eqb→eq (M .router p) r t ∙ sym (eqb→eq (M .router q) r u))) order-ordered) place)
+        (ordered-keep (inOrder M) (before M) (ownOf M r) order (λ p q t u. order-before M p q (eqb→eq (M .router p) r t ∙ sym (eqb→eq (M .router q) r u))) ordered) place)
       where
         place : (q : ℕ) → In q (keep (ownOf M r) order) → placeOf M q ≡ 0 + count (λ p. before M p q) (keep (ownOf M r) order)
         place q m =
-            sym (order-same (aheadBy (M .router) (M .nid) (M .peer) q))
+            sym (same (aheadBy (M .router) (M .nid) (M .peer) q))
             ∙ ap (λ (o : ℕ). count (λ p. eqb (M .router p) o && before M p q) order) (eqb→eq (M .router q) r (keep-in (ownOf M r) order m .1))
             ∙ sym (count-kept (ownOf M r) (λ p. before M p q) order)
             ∙ omega arith
 
     order-listed : Listed (contest M) (ownRows order ends) order
-    order-listed = record { same = order-same; whole = order-whole; runs = own-run; places = own-places }
+    order-listed = record { same = same; whole = order-whole (contending M) order ends (contending-part M) same ordered d; runs = own-run-here; places = own-places }
 
     -- the row at a place of a router is the contender that stands there
     stands-at : (x : List ℕ) (r : ℕ) → r < M .routers → standsAt order ends x r ≡ atPlace M x r
     stands-at x r l =
         at-places (placeOf M) none k 0 (ownRows order ends r) (own-places r l)
-        (λ q m. not-past M sound (order-all q (keep-in (ownOf M r) order (subst (In q) (own-run r l) m) .0)))
-        ∙ ap₂ (λ (n : ℕ) (rows : List ℕ). low (keep (λ q. eqb (placeOf M q) n) rows)) (omega arith) (own-run r l)
+        (λ q m. not-past M sound (order-all (contending M) order ends (contending-part M) same ordered d q (keep-in (ownOf M r) order (subst (In q) (own-run-here r l) m) .0)))
+        ∙ ap₂ (λ (n : ℕ) (rows : List ℕ). low (keep (λ q. eqb (placeOf M q) n) rows)) (omega arith) (own-run-here r l)
         ∙ ap low (keep-keep there (ownOf M r) order)
-        ∙ leastOr-same none (λ q. q) (λ q. ownOf M r q && there q) order (contending M) order-same
+        ∙ leastOr-same none (λ q. q) (λ q. ownOf M r q && there q) order (contending M) same
         ∙ ap low (sym (keep-keep there (ownOf M r) (contending M)) ∙ ap (keep there) (contenders-items M r))
         ∙ ap low (keep-agree there (λ q. eqb (standing M r q) k) (contenders M r) (λ q m. ap (λ (n : ℕ). eqb n k) (place-standing M r m)))
       where
@@ -348,16 +400,16 @@ module _ (M : Mesh) (sound : Sound M) where
     -- rounds lead where they lead in the contest, with any test that agrees on what beats what
     module _ (beat : ℕ → ℕ → Bool) (agree : (q : ℕ) → In q (contending M) → Agree (λ p. beat p q) (λ p. beats M p q) (contending M)) where
       start-is : (late : Bool) → table (length ends) (startBy late ends) ≡ cond late (top (contest M)) (bottom (contest M))
-      start-is true = ap (λ (n : ℕ). table n (column ends)) ends-length
-          ∙ table-same (column ends) (end (contest M)) (M .routers) (λ r l. ends-at r l ∙ order-same (ownOf M r))
-      start-is false = ap (λ (n : ℕ). table n (λ r. 0)) ends-length
+      start-is true = ap (λ (n : ℕ). table n (column ends)) ends-length-here
+          ∙ table-same (column ends) (end (contest M)) (M .routers) (λ r l. ends-at (contending M) order ends (contending-part M) same ordered d r l ∙ same (ownOf M r))
+      start-is false = ap (λ (n : ℕ). table n (λ r. 0)) ends-length-here
 
       rest-is : (late : Bool)
           → table (length ends) (standsAt order ends (times (roundBy beat (ownRows order ends) (length ends)) (length order) (table (length ends) (startBy late ends))))
           ≡ table (M .routers) (atPlace M (repeat (contest M) (length (contending M)) (cond late (top (contest M)) (bottom (contest M)))))
       rest-is late =
           ap (λ (x : List ℕ). table (length ends) (standsAt order ends x)) settled
-          ∙ ap (λ (n : ℕ). table n (standsAt order ends rest)) ends-length
+          ∙ ap (λ (n : ℕ). table n (standsAt order ends rest)) ends-length-here
           ∙ table-same (standsAt order ends rest) (atPlace M rest) (M .routers) (stands-at rest)
         where
           rest : List ℕ
@@ -365,20 +417,24 @@ module _ (M : Mesh) (sound : Sound M) where
 
           settled : times (roundBy beat (ownRows order ends) (length ends)) (length order) (table (length ends) (startBy late ends)) ≡ rest
           settled =
-              ap₂ (λ (n : ℕ) (x : List ℕ). times (roundBy beat (ownRows order ends) (length ends)) n x) (length-same order (contending M) order-same) (start-is late)
+              ap₂ (λ (n : ℕ) (x : List ℕ). times (roundBy beat (ownRows order ends) (length ends)) n x) (length-same order (contending M) same) (start-is late)
               ∙ ap (λ (step : List ℕ → List ℕ). times step (length (contending M)) (cond late (top (contest M)) (bottom (contest M))))
-              (ap (roundBy beat (ownRows order ends)) ends-length ∙ fun-ext (round-listed (contest M) (ownRows order ends) order order-listed beat agree))
+              (ap (roundBy beat (ownRows order ends)) ends-length-here ∙ fun-ext (round-listed (contest M) (ownRows order ends) order order-listed beat agree))
 
 -- ---- what the code finds
 
--- the contenders of a prefix, their groups, and the contenders in order with how many there are of each router
-pub record Arranged (routers : ℕ) (t : Columns) (rows group order ends : List ℕ) : Type 0 where
-  pub rows-are : rows ≡ contending (routesMesh routers t)
-  pub order-is : order ≡ arrangedBy (orderBy (column (t .router)) (column (t .nid)) (column (t .peer))) rows
+-- the preferred rows in order with how many there are of each router, the contenders in order likewise, and the group and MED of each
+-- by its place in that list
+pub record Arranged (routers : ℕ) (t : Columns) (rows counts order ends asns group med : List ℕ) : Type 0 where
+  pub rows-are : rows ≡ arrangedBy (orderBy (column (t .router)) (column (t .nid)) (column (t .peer))) (preferred (routesMesh routers t) (span 0 (length (t .router))))
+  pub counts-are : counts ≡ table routers (λ r. count (λ q. eqb (column (t .router) q) r) rows)
+  pub order-are : order ≡ unbeatenRuns (beatsBy (column (t .asn)) (column (t .med))) (ownRows rows counts) routers
   pub ends-are : ends ≡ table routers (λ r. count (λ q. eqb (column (t .router) q) r) order)
-  pub groups-are : group ≡ table (length (t .router)) (groupBy (column (t .asn)) (column (t .asn)))
+  pub asns-are : asns ≡ table (length order) (λ k. column (t .asn) (column order k))
+  pub groups-are : group ≡ table (length order) (groupBy (column asns) (column asns))
+  pub meds-are : med ≡ table (length order) (λ k. column (t .med) (column order k))
 
-module _ {routers : ℕ} {t : Columns} {rows group order ends : List ℕ} (a : Arranged routers t rows group order ends) (f : Fits routers t) where
+module _ {routers : ℕ} {t : Columns} {rows counts order ends asns group med : List ℕ} (a : Arranged routers t rows counts order ends asns group med) (f : Fits routers t) where
   -- ids have nothing to do with a contest: any that differ make the prefix sound
   abbrev M : Mesh
   M = lentMesh routers (span 0 routers) [] t
@@ -391,46 +447,73 @@ module _ {routers : ℕ} {t : Columns} {rows group order ends : List ℕ} (a : A
     few = omega (arith, f .rows);
   }
 
-  in-order : order ≡ arrangedBy (inOrder M) (contending M)
-  in-order = a .order-is ∙ ap (arrangedBy (inOrder M)) (a .rows-are)
+  same-here : Same order (contending M)
+  same-here = contenders-same M sound rows order counts (a .rows-are) (a .counts-are) (a .order-are)
 
-  below : (q : ℕ) → In q (contending M) → q < length (t .router)
-  below q m = in-all M (within (contending-all M) m)
+  ordered-here : Ordered (inOrder M) order
+  ordered-here = contenders-ordered M sound rows order counts (a .rows-are) (a .counts-are) (a .order-are)
 
-  agree : (q : ℕ) → In q (contending M) → Agree (λ p. beatsBy (column group) (column (t .med)) p q) (λ p. beats M p q) (contending M)
-  agree q m p n =
-      ap (λ (g : List ℕ). beatsBy (column g) (column (t .med)) p q) (a .groups-are)
-      ∙ beats-grouped (column (t .asn)) (column (t .med)) (length (t .router)) p q (below p n) (below q m)
+  ends-here : length ends ≡ routers
+  ends-here = ends-length M sound (contending M) order ends (contending-part M) same-here ordered-here (a .ends-are)
 
-  pub ready : Ready group (t .med) order ends
+  -- the lists by place are as long as the list of contenders
+  group-here : length group ≡ length order
+  group-here = ap length (a .groups-are) ∙ table-length (length order) (groupBy (column asns) (column asns))
+
+  whole-here : startOf ends (length ends) ≡ length order
+  whole-here =
+      ap (startOf ends) ends-here
+      ∙ start-at M sound (contending M) order ends (contending-part M) same-here ordered-here (a .ends-are) routers (omega arith)
+      ∙ ap length (sym (order-whole M sound (contending M) order ends (contending-part M) same-here ordered-here (a .ends-are)))
+
+  pub ready : Ready group med ends
   ready = record {
-    few = omega (arith, f .few, ends-length M sound order ends in-order (a .ends-are));
-    rows = omega (arith, f .rows, length-same order (contending M) (order-same M sound order ends in-order (a .ends-are)), kept-length);
-    med-long = f .med ∙ sym long;
-    inside = inside-part (inside-long (inside-span (length (t .router)) refl) long) (order-all M sound order ends in-order (a .ends-are));
-    grouped = λ q l. group-within (column (t .asn)) (column (t .asn)) (length (t .router)) mostRows (a .groups-are) (f .rows) q (omega (arith, long));
-    whole = ap (startOf ends) (ends-length M sound order ends in-order (a .ends-are))
-        ∙ start-at M sound order ends in-order (a .ends-are) routers (omega arith)
-        ∙ ap length (sym (order-whole M sound order ends in-order (a .ends-are)));
+    few = omega (arith, f .few, ends-here);
+    rows = omega (arith, group-here, order-few);
+    med-long = ap length (a .meds-are) ∙ table-length (length order) (λ k. column (t .med) (column order k)) ∙ sym group-here;
+    grouped = λ q l. group-within (column asns) (column asns) (length order) mostRows (a .groups-are) order-few q (omega (arith, group-here));
+    whole = whole-here ∙ sym group-here;
   }
     where
-      long : length group ≡ length (t .router)
-      long = ap length (a .groups-are) ∙ table-length (length (t .router)) (groupBy (column (t .asn)) (column (t .asn)))
-
-      kept-length : length (contending M) ≤ length (t .router)
-      kept-length = omega (
+      order-few : length order ≤ mostRows
+      order-few = omega (
         arith,
-        ap length (contending-all M .kept),
-        count-length (contending-all M .test) (all M),
-        count-le (contending-all M .test) (λ q. true) (all M) (λ q m u. tt),
+        f .rows,
+        length-same order (contending M) same-here,
+        ap length (contending-part M .kept),
+        count-length (contending-part M .test) (all M),
+        count-le (contending-part M .test) (λ q. true) (all M) (λ q m u. tt),
         count-all (all M),
         length-span 0 (length (t .router)),
       )
 
-  pub rest-early : table (length ends) (standsAt order ends (settledBy false group (t .med) order ends))
-      ≡ table routers (atPlace (routesMesh routers t) (earliest (contest (routesMesh routers t))))
-  rest-early = rest-is M sound order ends in-order (a .ends-are) (beatsBy (column group) (column (t .med))) agree false
+  -- what beats what, by place
+  agree-here : (p q : ℕ) → p < length order → q < length order → beatsBy (column group) (column med) p q ≡ beats M (column order p) (column order q)
+  agree-here p q l m =
+      ap₂ (λ (g d : List ℕ). beatsBy (column g) (column d) p q) (a .groups-are) (a .meds-are)
+      ∙ beats-grouped (column asns) (column stored) (length order) p q l m
+      ∙ ap (λ (xs : List ℕ). beatsBy (column xs) (column stored) p q) (a .asns-are)
+      ∙ ap₂ (λ (x y : ℕ). eqb x y && ltb (column stored p) (column stored q)) (table-at asn 0 (length order) p l) (table-at asn 0 (length order) q m)
+      ∙ ap₂ (λ (x y : ℕ). eqb (asn p) (asn q) && ltb x y) (table-at metric′ 0 (length order) p l) (table-at metric′ 0 (length order) q m)
+    where
+      asn : ℕ → ℕ
+      asn k = column (t .asn) (column order k)
 
-  pub rest-late : table (length ends) (standsAt order ends (settledBy true group (t .med) order ends))
-      ≡ table routers (atPlace (routesMesh routers t) (latest (contest (routesMesh routers t))))
-  rest-late = rest-is M sound order ends in-order (a .ends-are) (beatsBy (column group) (column (t .med))) agree true
+      metric′ : ℕ → ℕ
+      metric′ k = column (t .med) (column order k)
+
+      stored : List ℕ
+      stored = table (length order) metric′
+
+  rest-here : (late : Bool) → table (length ends) (standsAt order ends (settledBy late group med ends))
+      ≡ table routers (atPlace M (repeat (contest M) (length (contending M)) (cond late (top (contest M)) (bottom (contest M)))))
+  rest-here late =
+      ap₂ (λ (step : List ℕ → List ℕ) (n : ℕ). table (length ends) (standsAt order ends (times step n (table (length ends) (startBy late ends)))))
+      (fun-ext (round-places order ends whole-here (beatsBy (column group) (column med)) (beats M) agree-here)) group-here
+      ∙ rest-is M sound order ends same-here ordered-here (a .ends-are) (beats M) (λ q m p n. refl) late
+
+  pub rest-early : table (length ends) (standsAt order ends (settledBy false group med ends)) ≡ table routers (atPlace (routesMesh routers t) (earliest (contest (routesMesh routers t))))
+  rest-early = rest-here false
+
+  pub rest-late : table (length ends) (standsAt order ends (settledBy true group med ends)) ≡ table routers (atPlace (routesMesh routers t) (latest (contest (routesMesh routers t))))
+  rest-late = rest-here true

@@ -15,6 +15,7 @@ use Rattle.model.specs.NumberLaws.{le-or-lt}
 use Rattle.model.specs.Rows.{keep, some, table, column}
 use Rattle.model.specs.RowLaws.{In, here, there, Agree, keep-append, table-same}
 use Rattle.model.specs.Decision.{beatsBy}
+use Rattle.model.specs.ContestLaws.{times-stays}
 use Rattle.model.specs.Contest.{times, leastOr}
 use Rattle.model.specs.LeastLaws.{leastOr-append}
 use Rattle.model.specs.Lent.{Inside}
@@ -22,11 +23,6 @@ use Rattle.model.specs.Columns.{mostRows, pastKeys}
 use Rattle.model.specs.Listing.{startOf, ownRows, passedRows, firstPlace, roundBy, Ready}
 use Rattle.model.specs.ListLaws.{inside-in, inside-take, inside-drop}
 use Rattle.model.specs.ListingLaws.{beaten-low}
-
--- what a step leaves as it is stays
-pub times-stays : (step : List ℕ → List ℕ) (n : ℕ) (x : List ℕ) → x ≡ step x → times step n x ≡ x
-times-stays step zero x e = refl
-times-stays step (suc n) x e = ap (times step n) (sym e) ∙ times-stays step n x e
 
 -- so many steps are done, and x is where they led
 pub record Rounds (step : List ℕ → List ℕ) (n : ℕ) (x₀ : List ℕ) (i : ℕ) (x : List ℕ) : Type 0 where

@@ -2,18 +2,19 @@
 use Prim.Native.Nat.{ℕ, zero, suc, _+_, _≤_, _<_}
 use native.Mathlib.Omega.{arith}
 use mathlib.Core.Path.{_≡_, refl, sym, ap, ap₂, subst, _∙_}
-use mathlib.Core.Logic.{inl, inr}
-use mathlib.Core.Bool.{Bool, true, _&&_, not}
-use mathlib.Core.List.{List, [], _∷_, _++_, append-assoc, append-nil}
+use mathlib.Core.Logic.{_⊎_, inl, inr}
+use mathlib.Core.Bool.{Bool, true, cond, _&&_, _||_, not}
+use mathlib.Core.List.{List, [], _∷_, _++_, map, append-assoc, append-nil}
 use lib.Dec.{T, eqb, ltb, leb, eqb→eq, leb→le}
-use lib.ListN.{length, getD, take}
+use lib.ListN.{length, getD, take, drop}
+use lib.Seq.{drop-cons}
 use borrow.Author.Tests.{eqb-true, eqb-false, leb-true, leb-false, eq-eqb, ne-eqb, lt-ltb, le-leb, lt-leb}
-use Rattle.model.specs.Rows.{keep, some, count, column}
-use Rattle.model.specs.RowLaws.{by, In, here, there, nowhere, in-cases, empty-of, in-keep, keep-in, keep-keep, keep-all, some-kept, Agree, keep-agree, some-agree, count-all, count-length, table-same}
+use Rattle.model.specs.Rows.{keep, some, count, span, column}
+use Rattle.model.specs.RowLaws.{by, In, here, there, nowhere, in-cases, empty-of, in-keep, keep-in, keep-keep, keep-all, some-kept, Agree, keep-agree, some-agree, count-all, count-length, in-span, table-same}
 use Rattle.model.specs.Contest.{Contest, leastOr, end, passed, firstFree, refine}
 use Rattle.model.specs.LeastLaws.{leastOr-past, leastOr-le, le-leastOr}
 use Rattle.model.specs.OrderLaws.{Ordered, ordered-first, ordered-later}
-use Rattle.model.specs.Listing.{passedRows, firstPlace, roundBy}
+use Rattle.model.specs.Listing.{startOf, ownRows, ownPlaces, passedRows, firstPlace, roundBy}
 
 -- ---- two lists with the same members
 
@@ -31,7 +32,7 @@ leastOr-part : (past : ℕ) (key : ℕ → ℕ) (a b : List ℕ) → ((q : ℕ) 
 leastOr-part past key a b f = le-leastOr past key b (leastOr-past past key a) (λ q m. leastOr-le past key a (f q m))
 
 module _ (a b : List ℕ) (same : Same a b) where
-  some-same : (test : ℕ → Bool) → some test a ≡ some test b
+  pub some-same : (test : ℕ → Bool) → some test a ≡ some test b
   some-same test = some-count test a ∙ ap (ltb 0) (same test) ∙ sym (some-count test b)
 
   pub in-same : (q : ℕ) → In q a → In q b
@@ -115,7 +116,7 @@ module _ (key : ℕ → ℕ) where
 
 -- ---- the runs of a list, key after key
 
-keep-append : (test : ℕ → Bool) (a b : List ℕ) → keep test (a ++ b) ≡ keep test a ++ keep test b
+pub keep-append : (test : ℕ → Bool) (a b : List ℕ) → keep test (a ++ b) ≡ keep test a ++ keep test b
 keep-append test [] b = refl
 keep-append test (q ∷ a) b = by (test q) (λ e. rw (e, keep-append test a b)) (λ e. rw (e, keep-append test a b))
 
@@ -224,3 +225,103 @@ module _ (C : Contest) (own : ℕ → List ℕ) (order : List ℕ) (s : Listed C
           ∙ ap₂ (λ (n : ℕ) (rows : List ℕ). leastOr n place rows) d (ap (keep free) (s .runs r l) ∙ keep-keep free (mine r) order)
           ∙ leastOr-same (end C r) place (λ q. mine r q && free q) order (C .items) (s .same)
           ∙ ap (leastOr (end C r) place) (keep-agree (λ q. mine r q && free q) (λ q. mine r q && free′ q) (C .items) (λ q m. ap (λ (b : Bool). mine r q && b) (free-is q m)))
+
+-- ---- rounds along the places of a list are rounds along its rows
+
+module _ (f : ℕ → ℕ) where
+  some-map : (test : ℕ → Bool) (rows : List ℕ) → some test (map f rows) ≡ some (λ q. test (f q)) rows
+  some-map test [] = refl
+  some-map test (q ∷ rows) = ap (λ (b : Bool). test (f q) || b) (some-map test rows)
+
+  first-map : (test : ℕ → Bool) (rows : List ℕ) → firstPlace test (map f rows) ≡ firstPlace (λ q. test (f q)) rows
+  first-map test [] = refl
+  first-map test (q ∷ rows) = ap (λ (n : ℕ). cond (test (f q)) 0 (suc n)) (first-map test rows)
+
+  take-map : (n : ℕ) (rows : List ℕ) → take n (map f rows) ≡ map f (take n rows)
+  take-map zero rows = refl
+  take-map (suc n) [] = refl
+  take-map (suc n) (q ∷ rows) = ap (λ (xs : List ℕ). f q ∷ xs) (take-map n rows)
+
+  append-map : (a b : List ℕ) → map f (a ++ b) ≡ map f a ++ map f b
+  append-map [] b = refl
+  append-map (q ∷ a) b = ap (λ (xs : List ℕ). f q ∷ xs) (append-map a b)
+
+  passed-map : (own : ℕ → List ℕ) (x : List ℕ) (n : ℕ) → passedRows (λ r. map f (own r)) x n ≡ map f (passedRows own x n)
+  unfolding passedRows
+  passed-map own x zero = refl
+  passed-map own x (suc n) =
+      ap₂ (λ (a b : List ℕ). a ++ b) (passed-map own x n) (take-map (suc (column x n)) (own n))
+      ∙ sym (append-map (passedRows own x n) (take (suc (column x n)) (own n)))
+
+first-agree : (t u : ℕ → Bool) (rows : List ℕ) → Agree t u rows → firstPlace t rows ≡ firstPlace u rows
+first-agree t u [] h = refl
+first-agree t u (q ∷ rows) h = ap₂ (λ (b : Bool) (n : ℕ). cond b 0 (suc n)) (h q (here refl)) (first-agree t u rows (λ z m. h z (there m)))
+
+in-append : {q : ℕ} (a b : List ℕ) → In q (a ++ b) → In q a ⊎ In q b
+in-append [] b m = inr m
+in-append (p ∷ a) b m = elim (in-cases m) [
+  | inl e ↦ inl (here e)
+  | inr n ↦ elim (in-append a b n) [ inl k ↦ inl (there k) | inr k ↦ inr k ]
+]
+
+take-in : {q : ℕ} (n : ℕ) (rows : List ℕ) → In q (take n rows) → In q rows
+take-in zero rows m = absurd (nowhere m)
+take-in (suc n) [] m = m
+take-in (suc n) (p ∷ rows) m = elim (in-cases m) [ inl e ↦ here e | inr k ↦ there (take-in n rows k) ]
+
+-- a part of a list is what stands at its places
+part-at : (rows : List ℕ) (from n : ℕ) → from + n ≤ length rows → take n (drop from rows) ≡ map (column rows) (span from n)
+part-at rows from zero l = refl
+part-at rows from (suc n) l =
+    ap (take (suc n)) (drop-cons rows from 0 (omega arith))
+    ∙ ap (λ (xs : List ℕ). column rows from ∷ xs) (part-at rows (suc from) n (omega arith))
+
+module _ (order ends : List ℕ) (whole : startOf ends (length ends) ≡ length order) where
+  -- the rows of each router end before those of the next
+  start-below : (r n : ℕ) → r < n → startOf ends r + column ends r ≤ startOf ends n
+  unfolding startOf
+  start-below r zero l = absurd (omega arith)
+  start-below r (suc n) l = by (eqb r n)
+      (λ e. let k = eqb-true r n e in rw k (omega arith))
+      (λ e. let h = start-below r n (let k = eqb-false r n e in omega (arith, k)) in omega arith)
+
+  own-within : (r : ℕ) → r < length ends → startOf ends r + column ends r ≤ length order
+  own-within r l = omega (arith, start-below r (length ends) l, whole)
+
+  own-map : (r : ℕ) → r < length ends → ownRows order ends r ≡ map (column order) (ownPlaces ends r)
+  own-map r l = part-at order (startOf ends r) (column ends r) (own-within r l)
+
+  passed-own : (x : List ℕ) (n : ℕ) → n ≤ length ends → passedRows (ownRows order ends) x n ≡ passedRows (λ r. map (column order) (ownPlaces ends r)) x n
+  unfolding passedRows
+  passed-own x zero l = refl
+  passed-own x (suc n) l = ap₂ (λ (a b : List ℕ). a ++ take (suc (column x n)) b) (passed-own x n (omega arith)) (own-map n l)
+
+  passed-within : (x : List ℕ) (n : ℕ) → n ≤ length ends → (q : ℕ) → In q (passedRows (ownPlaces ends) x n) → q < length order
+  unfolding passedRows
+  passed-within x zero l q m = absurd (nowhere m)
+  passed-within x (suc n) l q m = elim (in-append (passedRows (ownPlaces ends) x n) (take (suc (column x n)) (ownPlaces ends n)) m) [
+    | inl k ↦ passed-within x n (omega arith) q k
+    | inr k ↦ omega (arith, in-span (startOf ends n) (column ends n) (take-in (suc (column x n)) (ownPlaces ends n) k), own-within n l)
+  ]
+
+  pub round-places : (beat beat′ : ℕ → ℕ → Bool) → ((p q : ℕ) → p < length order → q < length order → beat p q ≡ beat′ (column order p) (column order q))
+      → (x : List ℕ) → roundBy beat (ownPlaces ends) (length ends) x ≡ roundBy beat′ (ownRows order ends) (length ends) x
+  round-places beat beat′ agree x = table-same (λ r. firstPlace free (ownPlaces ends r)) (λ r. firstPlace free′ (ownRows order ends r)) (length ends) (λ r l.
+      first-agree free (λ q. free′ (column order q)) (ownPlaces ends r) (λ q m. free-is q (omega (arith, in-span (startOf ends r) (column ends r) m, own-within r l)))
+      ∙ sym (first-map (column order) free′ (ownPlaces ends r))
+      ∙ ap (firstPlace free′) (sym (own-map r l)))
+    where
+      seen : List ℕ
+      seen = passedRows (ownPlaces ends) x (length ends)
+
+      free : ℕ → Bool
+      free q = not (some (λ p. beat p q) seen)
+
+      free′ : ℕ → Bool
+      free′ q = not (some (λ p. beat′ p q) (passedRows (ownRows order ends) x (length ends)))
+
+      free-is : (q : ℕ) → q < length order → free q ≡ free′ (column order q)
+      free-is q l = ap not (
+        some-agree (λ p. beat p q) (λ p. beat′ (column order p) (column order q)) seen (λ p m. agree p q (passed-within x (length ends) (omega arith) p m) l)
+        ∙ sym (some-map (column order) (λ p. beat′ p (column order q)) seen)
+        ∙ ap (some (λ p. beat′ p (column order q))) (sym (passed-own x (length ends) (omega arith) ∙ passed-map (column order) (ownPlaces ends) x (length ends))))
