@@ -20,7 +20,7 @@ use Rattle.model.specs.OrderLaws.{count-insert, insert-in, Ordered, Comp
 use Rattle.model.specs.Contest.{leastOr, times, end, repeat, bottom, top, earliest, latest, beatsOwnBy, aheadBy, contending, placeOf, contest, atPlace}
 use Rattle.model.specs.EarlyLateLaws.{contenders-items, item-contender, place-standing}
 use Rattle.model.specs.Columns.{Columns, lentMesh, routesMesh, Fits, mostRows}
-use Rattle.model.specs.Listing.{alikeBy, groupBy, orderBy, arrangedOn, arrangedBy, startOf, ownRows, unbeatenRuns, roundBy, startBy, settledBy, standsAt, Ready}
+use Rattle.model.specs.Listing.{groupBy, orderBy, arrangedOn, arrangedBy, startOf, ownRows, unbeatenRuns, roundBy, startBy, settledBy, standsAt, Ready}
 use Rattle.model.specs.RowLaws.{by, both, or-cases, or-left, or-right, and-left, and-right, and-both, eq→eqb, In, here, there, nowhere, keep-in, keep-keep, some-kept, count-kept, count-length, count-le, count-all}
 use Rattle.model.specs.RowLaws.{Agree, keep-agree, some-agree, Filtered, filtered, filtered-keep, filtered-self, within, in-span, length-span, table-at, table-length, table-same}
 use Rattle.model.specs.ListLaws.{inside-part, inside-span, inside-long, span-at}
@@ -48,52 +48,40 @@ first-of t from (suc n) d e =
           (λ other. let o = eqb-false y from other in ih .miss y (omega (arith, o)) m);
     }))
 
-module _ (a b : ℕ → ℕ) where
-  alike-refl : (q : ℕ) → alikeBy a b q q ≡ true
-  alike-refl q = rw (eq-eqb (a q) (a q) refl, eq-eqb (b q) (b q) refl)
+module _ (key : ℕ → ℕ) where
+  group-first : (q : ℕ) → FirstOf (λ p. eqb (key p) (key q)) 0 q (groupBy key q)
+  group-first q = first-of (λ p. eqb (key p) (key q)) 0 q q (omega arith)
 
-  alike-is : (q p : ℕ) → alikeBy a b q p ≡ true → (a p ≡ a q) × (b p ≡ b q)
-  alike-is q p e = let h = both (eqb (a p) (a q)) (eqb (b p) (b q)) e in (eqb-true (a p) (a q) (h .0), eqb-true (b p) (b q) (h .1))
-
-  is-alike : (q p : ℕ) → a p ≡ a q → b p ≡ b q → alikeBy a b q p ≡ true
-  is-alike q p d e = rw (eq-eqb (a p) (a q) d, eq-eqb (b p) (b q) e)
-
-  group-first : (q : ℕ) → FirstOf (alikeBy a b q) 0 q (groupBy a b q)
-  group-first q = first-of (alikeBy a b q) 0 q q (omega arith)
-
-  pub group-le : (q : ℕ) → groupBy a b q ≤ q
+  group-le : (q : ℕ) → groupBy key q ≤ q
   group-le q = group-first q .high
 
   -- a group is one of its own rows
-  group-in : (q : ℕ) → alikeBy a b q (groupBy a b q) ≡ true
+  group-in : (q : ℕ) → key (groupBy key q) ≡ key q
   group-in q =
-      by (eqb (groupBy a b q) q)
-      (λ same. rw (eqb-true (groupBy a b q) q same) (alike-refl q))
-      (λ other. let f = group-first q in let o = eqb-false (groupBy a b q) q other in f .hit (let h = f .high in omega (arith, o)))
+      by (eqb (groupBy key q) q)
+      (λ same. ap key (eqb-true (groupBy key q) q same))
+      (λ other. let f = group-first q in
+      let o = eqb-false (groupBy key q) q other in
+      eqb-true (key (groupBy key q)) (key q) (f .hit (let h = f .high in omega (arith, o))))
 
-  group-below : (p q : ℕ) → a p ≡ a q → b p ≡ b q → groupBy a b q ≤ groupBy a b p
-  group-below p q d e =
-      let z = groupBy a b p in
-      let h = alike-is p z (group-in p) in
-      let in-q : alikeBy a b q z ≡ true = is-alike q z (h .0 ∙ d) (h .1 ∙ e) in
-      by (ltb z (groupBy a b q))
-      (λ l. absurd (false≢true (sym (group-first q .miss z (omega arith) (ltb-true z (groupBy a b q) l)) ∙ in-q)))
-      (λ l. ltb-false z (groupBy a b q) l)
+  group-below : (p q : ℕ) → key p ≡ key q → groupBy key q ≤ groupBy key p
+  group-below p q e =
+      let z = groupBy key p in
+      let in-q : eqb (key z) (key q) ≡ true = eq-eqb (key z) (key q) (group-in p ∙ e) in
+      by (ltb z (groupBy key q))
+      (λ l. absurd (false≢true (sym (group-first q .miss z (omega arith) (ltb-true z (groupBy key q) l)) ∙ in-q)))
+      (λ l. ltb-false z (groupBy key q) l)
 
-  -- two rows are of one group exactly when they have the same in both columns
-  pub group-same : (p q : ℕ) → eqb (groupBy a b p) (groupBy a b q) ≡ alikeBy a b q p
+  -- two rows are of one group exactly when they have the same in the column
+  group-same : (p q : ℕ) → eqb (groupBy key p) (groupBy key q) ≡ eqb (key p) (key q)
   group-same p q =
-      by (alikeBy a b q p)
-      (λ h. let s = alike-is q p h in
-      let l = group-below p q (s .0) (s .1) in
-      let m = group-below q p (sym (s .0)) (sym (s .1)) in
-      eq-eqb (groupBy a b p) (groupBy a b q) (omega arith) ∙ sym h)
-      (λ h. ne-eqb (groupBy a b p) (groupBy a b q) (λ e.
-      let s = alike-is p (groupBy a b p) (group-in p) in
-      let t = alike-is q (groupBy a b q) (group-in q) in
-      let d : a p ≡ a q = sym (s .0) ∙ ap a e ∙ t .0 in
-      let f : b p ≡ b q = sym (s .1) ∙ ap b e ∙ t .1 in
-      true≢false (sym (is-alike q p d f) ∙ h)) ∙ sym h)
+      by (eqb (key p) (key q))
+      (λ h. let s = eqb-true (key p) (key q) h in
+      let l = group-below p q s in
+      let m = group-below q p (sym s) in
+      eq-eqb (groupBy key p) (groupBy key q) (omega arith) ∙ sym h)
+      (λ h. ne-eqb (groupBy key p) (groupBy key q) (λ e.
+      eqb-false (key p) (key q) h (sym (group-in p) ∙ ap key e ∙ group-in q)) ∙ sym h)
 
 -- ---- step 4 by the lowest MED of each group
 
@@ -117,67 +105,15 @@ module _ (asn med : ℕ → ℕ) (past q : ℕ) (high : med q ≤ past) where
           (λ g. let m = ltb-true y z g in rw (h, g) (sym (lt-ltb (min x y) z (omega arith))))
           (λ g. let m = ltb-false y z g in rw (h, g) (sym (le-ltb (min x y) z (omega arith)))))
 
--- so step 4 needs only the lowest MED of each group, where no MED is above `past`
-pub unbeaten-low : (group med low : ℕ → ℕ) (past : ℕ) (others rows : List ℕ) → ((q : ℕ) → med q ≤ past)
-    → ((q : ℕ) → In q rows → low (group q) ≡ leastOr past med (keep (λ p. eqb (group p) (group q)) others))
-    → keep (λ q. not (ltb (low (group q)) (med q))) rows ≡ unbeatenBy (beatsBy group med) others rows
-unbeaten-low group med low past others rows high lows =
-    keep-agree (λ q. not (ltb (low (group q)) (med q))) (λ q. not (some (λ p. beatsBy group med p q) others)) rows
-    (λ q m. ap not (ap (λ (k : ℕ). ltb k (med q)) (lows q m) ∙ sym (beaten-low group med past q (high q) others)))
-
--- what beats what may be told by any test that agrees on the rows in question
-pub unbeaten-agree : (beat beat′ : ℕ → ℕ → Bool) (others rows : List ℕ)
-    → ((q : ℕ) → In q rows → Agree (λ p. beat p q) (λ p. beat′ p q) others)
-    → unbeatenBy beat others rows ≡ unbeatenBy beat′ others rows
-unbeaten-agree beat beat′ others rows h =
-    keep-agree (λ q. not (some (λ p. beat p q) others)) (λ q. not (some (λ p. beat′ p q) others)) rows
-    (λ q m. ap not (some-agree (λ p. beat p q) (λ p. beat′ p q) others (h q m)))
-
--- beating by stored groups of one column: beating by the column
-module _ (asn med : ℕ → ℕ) where
-  pub beats-grouped : (n p q : ℕ) → p < n → q < n → beatsBy (column (table n (groupBy asn asn))) med p q ≡ beatsBy asn med p q
-  beats-grouped n p q l m =
-      let g = groupBy asn asn in
-      rw (table-at g 0 n p l, table-at g 0 n q m, group-same asn asn p q, and-self (eqb (asn p) (asn q)))
-
-  -- by stored groups of router and column: beating within one router
-  pub beats-own-grouped : (router : ℕ → ℕ) (n p q : ℕ) → p < n → q < n → beatsBy (column (table n (groupBy router asn))) med p q ≡ beatsOwnBy router asn med p q
-  beats-own-grouped router n p q l m =
-      let g = groupBy router asn in
-      rw (table-at g 0 n p l, table-at g 0 n q m, group-same router asn p q) (and-assoc (eqb (router p) (router q)) (eqb (asn p) (asn q)) (ltb (med p) (med q)))
-
--- ---- the contenders of all routers
-
--- what the code finds of contenders: of the preferred rows, those that no group beats
-pub contending-is : (t : Columns) (routers : ℕ) {rows left group : List ℕ}
-    → rows ≡ preferred (routesMesh routers t) (span 0 (length (t .router)))
-    → group ≡ table (length (t .router)) (groupBy (column (t .router)) (column (t .asn)))
-    → left ≡ unbeatenBy (beatsBy (column group) (column (t .med))) rows rows
-    → left ≡ contending (routesMesh routers t)
-contending-is t routers {rows} {group} k g f =
-    f
-    ∙ ap (λ (xs : List ℕ). unbeatenBy (beatsBy (column xs) (column (t .med))) rows rows) g
-    ∙ unbeaten-agree (beatsBy stored (column (t .med))) (beatsOwnBy (M .router) (M .asn) (metric M)) rows rows
-    (λ q m p m′. beats-own-grouped (column (t .asn)) (column (t .med)) (column (t .router)) n p q (below p m′) (below q m))
-    ∙ ap (λ (xs : List ℕ). unbeatenBy (beatsOwnBy (M .router) (M .asn) (metric M)) xs xs) k
-  where
-    M : Mesh
-    M = routesMesh routers t
-
-    n : ℕ
-    n = length (t .router)
-
-    stored : ℕ → ℕ
-    stored = column (table n (groupBy (column (t .router)) (column (t .asn))))
-
-    below : (q : ℕ) → In q rows → q < n
-    below q m = let h = in-span 0 n (picks-preferred M .from (span 0 n) (subst (In q) k m)) in omega arith
+-- beating by stored groups: beating by the column
+pub beats-grouped : (asn med : ℕ → ℕ) (n p q : ℕ) → p < n → q < n → beatsBy (column (table n (groupBy asn))) med p q ≡ beatsBy asn med p q
+beats-grouped asn med n p q l m = rw (table-at (groupBy asn) 0 n p l, table-at (groupBy asn) 0 n q m, group-same asn p q)
 
 -- a stored group is a row
-pub group-within : (a b : ℕ → ℕ) (n most : ℕ) {group : List ℕ} → group ≡ table n (groupBy a b) → n ≤ most → (q : ℕ) → q < n → column group q < most
-group-within a b n most g m q l =
-    let e = ap (λ (xs : List ℕ). column xs q) g ∙ table-at (groupBy a b) 0 n q l in
-    let h = group-le a b q in
+pub group-within : (key : ℕ → ℕ) (n most : ℕ) {group : List ℕ} → group ≡ table n (groupBy key) → n ≤ most → (q : ℕ) → q < n → column group q < most
+group-within key n most g m q l =
+    let e = ap (λ (xs : List ℕ). column xs q) g ∙ table-at (groupBy key) 0 n q l in
+    let h = group-le key q in
     omega arith
 
 -- ---- rows put in order one after the other
@@ -431,7 +367,7 @@ pub record Arranged (routers : ℕ) (t : Columns) (rows counts order ends asns g
   pub order-are : order ≡ unbeatenRuns (beatsBy (column (t .asn)) (column (t .med))) (ownRows rows counts) routers
   pub ends-are : ends ≡ table routers (λ r. count (λ q. eqb (column (t .router) q) r) order)
   pub asns-are : asns ≡ table (length order) (λ k. column (t .asn) (column order k))
-  pub groups-are : group ≡ table (length order) (groupBy (column asns) (column asns))
+  pub groups-are : group ≡ table (length order) (groupBy (column asns))
   pub meds-are : med ≡ table (length order) (λ k. column (t .med) (column order k))
 
 module _ {routers : ℕ} {t : Columns} {rows counts order ends asns group med : List ℕ} (a : Arranged routers t rows counts order ends asns group med) (f : Fits routers t) where
@@ -458,7 +394,7 @@ module _ {routers : ℕ} {t : Columns} {rows counts order ends asns group med : 
 
   -- the lists by place are as long as the list of contenders
   group-here : length group ≡ length order
-  group-here = ap length (a .groups-are) ∙ table-length (length order) (groupBy (column asns) (column asns))
+  group-here = ap length (a .groups-are) ∙ table-length (length order) (groupBy (column asns))
 
   whole-here : startOf ends (length ends) ≡ length order
   whole-here =
@@ -471,7 +407,7 @@ module _ {routers : ℕ} {t : Columns} {rows counts order ends asns group med : 
     few = omega (arith, f .few, ends-here);
     rows = omega (arith, group-here, order-few);
     med-long = ap length (a .meds-are) ∙ table-length (length order) (λ k. column (t .med) (column order k)) ∙ sym group-here;
-    grouped = λ q l. group-within (column asns) (column asns) (length order) mostRows (a .groups-are) order-few q (omega (arith, group-here));
+    grouped = λ q l. group-within (column asns) (length order) mostRows (a .groups-are) order-few q (omega (arith, group-here));
     whole = whole-here ∙ sym group-here;
   }
     where
