@@ -4,24 +4,22 @@ use Prim.Native.Nat.{ℕ, zero, suc, _+_, _-_, _≤_, _<_, min, zero-le}
 use native.Mathlib.Nat.{sub-zero, le-refl}
 use native.Mathlib.Numerals.{add-one}
 use native.Mathlib.Omega.{arith}
-use mathlib.Core.Path.{_≡_, refl, sym, ap, _∙_}
+use mathlib.Core.Path.{_≡_, refl, sym, ap, ap₂, _∙_}
 use mathlib.Core.Logic.{⊎-elim}
 use mathlib.Core.Bool.{Bool, cond, not}
 use mathlib.Core.List.{List, [], _∷_, _++_}
 use lib.Dec.{eqb, ltb}
-use lib.ListN.{length, take, drop, length-take}
-use lib.Seq.{take-all, take-take}
+use lib.ListN.{length, take, drop, length-drop}
+use lib.Seq.{getD-take, getD-drop, length-take-le}
 use Rattle.model.specs.NumberLaws.{le-or-lt}
-use Rattle.model.specs.Rows.{keep, some, table, column}
-use Rattle.model.specs.RowLaws.{In, here, there, Agree, keep-append, table-same}
+use Rattle.model.specs.Rows.{keep, some, span, table, column}
+use Rattle.model.specs.RowLaws.{by, In, here, there, Agree, keep-append, in-span, table-same}
 use Rattle.model.specs.Decision.{beatsBy}
-use Rattle.model.specs.ContestLaws.{times-stays}
 use Rattle.model.specs.Contest.{times, leastOr}
+use Rattle.model.specs.ContestLaws.{times-stays}
 use Rattle.model.specs.LeastLaws.{leastOr-append}
-use Rattle.model.specs.Lent.{Inside}
 use Rattle.model.specs.Columns.{mostRows, pastKeys}
-use Rattle.model.specs.Listing.{startOf, ownRows, passedRows, firstPlace, roundBy, Ready}
-use Rattle.model.specs.ListLaws.{inside-in, inside-take, inside-drop}
+use Rattle.model.specs.Listing.{startOf, ownPlaces, passedRows, firstPlace, roundBy, Ready}
 use Rattle.model.specs.ListingLaws.{beaten-low}
 
 -- so many steps are done, and x is where they led
@@ -61,92 +59,148 @@ start-le ends r (suc n) l = ⊎-elim
     (λ m. omega (arith, start-le ends r n (omega arith), start-next ends n))
     (le-or-lt (suc n) r)
 
--- a loop over routers, at r: so many rows are of the routers before it
-pub record Turn (order ends : List ℕ) (r from : ℕ) : Type 0 where
-  pub whole : startOf ends (length ends) ≡ length order
+-- a loop over routers, at r: so many rows are of the routers before it, of n in all
+pub record Turn (n : ℕ) (ends : List ℕ) (r from : ℕ) : Type 0 where
+  pub within : r ≤ length ends
+  pub whole : startOf ends (length ends) ≡ n
   pub here : from ≡ startOf ends r
 
-module _ {order ends : List ℕ} where
-  pub turn : startOf ends (length ends) ≡ length order → Turn order ends 0 0
+module _ {n : ℕ} {ends : List ℕ} where
+  pub turn : startOf ends (length ends) ≡ n → Turn n ends 0 0
   unfolding startOf
-  turn e = record { whole = e; here = refl }
+  turn e = record { within = zero-le; whole = e; here = refl }
 
-  module _ {r from : ℕ} (t : Turn order ends r from) where
-    pub turn-next : Turn order ends (r + 1) (from + column ends r)
-    turn-next = record { whole = t .whole; here = rw add-one (ap (λ (n : ℕ). n + column ends r) (t .here) ∙ sym (start-next ends r)) }
+  module _ {r from : ℕ} (t : Turn n ends r from) where
+    pub turn-next : r < length ends → Turn n ends (r + 1) (from + column ends r)
+    turn-next l = record { within = omega arith; whole = t .whole; here = rw add-one (ap (λ (k : ℕ). k + column ends r) (t .here) ∙ sym (start-next ends r)) }
 
-    pub turn-room : r < length ends → from + column ends r ≤ length order
+    pub turn-room : r < length ends → from + column ends r ≤ n
     turn-room l = omega (arith, t .here, t .whole, start-next ends r, start-le ends (suc r) (length ends) l)
 
-    -- the part of the list that is the router's own
-    pub turn-own : {n : ℕ} → n ≡ column ends r → take n (drop from order) ≡ ownRows order ends r
-    turn-own e = rw (e, t .here)
+-- ---- part of a column
 
-    -- and of that the part up to and at a place
-    pub turn-front : {n : ℕ} (place : ℕ) → n ≡ min (suc place) (column ends r) → take n (drop from order) ≡ take (suc place) (ownRows order ends r)
-    turn-front place e = rw (e, t .here) (sym (⊎-elim
-        (λ l. let c : min (suc place) (column ends r) ≡ suc place = omega arith in rw c (take-take (suc place) (column ends r) own l))
-        (λ l. let c : min (suc place) (column ends r) ≡ column ends r = omega arith in
-        rw c (take-all (suc place) (take (column ends r) own) (omega (arith, length-take (column ends r) own))))
-        (le-or-lt (suc place) (column ends r))))
-      where
-        own : List ℕ
-        own = drop (startOf ends r) order
+-- n entries of a column, from one on
+abbrev slice : ℕ → ℕ → List ℕ → List ℕ
+slice from n xs = take (from + n - from) (drop from xs)
+
+pub slice-long : (from n : ℕ) (xs : List ℕ) → from + n ≤ length xs → length (slice from n xs) ≡ n
+slice-long from n xs l = let e : from + n - from ≡ n = omega arith in rw e (length-take-le n (drop from xs) (omega (arith, length-drop from xs)))
+
+slice-at : (from n : ℕ) (xs : List ℕ) (i : ℕ) → i < n → column (slice from n xs) (0 + i) ≡ column xs (from + i)
+slice-at from n xs i l =
+    let e : from + n - from ≡ n = omega arith in
+    let z : 0 + i ≡ i = omega arith in
+    rw (e, z) (getD-take n (drop from xs) i 0 l ∙ getD-drop from xs i 0)
+
+-- what is found of numbers from a on is what is found of those from b on, where keys and tests agree
+shift-least : (past : ℕ) (key key′ : ℕ → ℕ) (test test′ : ℕ → Bool) (a b n : ℕ) → ((i : ℕ) → i < n → key (a + i) ≡ key′ (b + i)) → ((i : ℕ) → i < n → test (a + i) ≡ test′ (b + i))
+    → leastOr past key (keep test (span a n)) ≡ leastOr past key′ (keep test′ (span b n))
+shift-least past key key′ test test′ a b zero f g = refl
+shift-least past key key′ test test′ a b (suc n) f g =
+    let ih = shift-least past key key′ test test′ (suc a) (suc b) n (λ i l. after key key′ i (f (suc i) (omega arith))) (λ i l. after test test′ i (g (suc i) (omega arith))) in
+    let k : key a ≡ key′ b = first key key′ (f 0 (omega arith)) in
+    let t : test a ≡ test′ b = first test test′ (g 0 (omega arith)) in
+    by (test′ b) (λ e. rw (t, e) (ap₂ min k ih)) (λ e. rw (t, e) ih)
+  where
+    after : {A : Type 0} (h h′ : ℕ → A) (i : ℕ) → h (a + suc i) ≡ h′ (b + suc i) → h (suc a + i) ≡ h′ (suc b + i)
+    after h h′ i e = ap h (omega arith) ∙ e ∙ ap h′ (omega arith)
+
+    first : {A : Type 0} (h h′ : ℕ → A) → h (a + 0) ≡ h′ (b + 0) → h a ≡ h′ b
+    first h h′ e = ap h (omega arith) ∙ e ∙ ap h′ (omega arith)
+
+shift-first : (test test′ : ℕ → Bool) (a b n : ℕ) → ((i : ℕ) → i < n → test (a + i) ≡ test′ (b + i)) → firstPlace test (span a n) ≡ firstPlace test′ (span b n)
+shift-first test test′ a b zero g = refl
+shift-first test test′ a b (suc n) g =
+    ap₂ (λ (t : Bool) (k : ℕ). cond t 0 (suc k)) (ap test (omega arith) ∙ g 0 (omega arith) ∙ ap test′ (omega arith))
+    (shift-first test test′ (suc a) (suc b) n (λ i l. ap test (omega arith) ∙ g (suc i) (omega arith) ∙ ap test′ (omega arith)))
+
+take-span : (k from n : ℕ) → take k (span from n) ≡ span from (min k n)
+take-span zero from n = let e : min 0 n ≡ 0 = omega arith in rw e
+take-span (suc k) from zero = let e : min (suc k) 0 ≡ 0 = omega arith in rw e
+take-span (suc k) from (suc n) =
+    let e : min (suc k) (suc n) ≡ suc (min k n) = omega arith in
+    rw e (ap (λ (rows : List ℕ). from ∷ rows) (take-span k (suc from) n))
 
 passed-next : (own : ℕ → List ℕ) (state : List ℕ) (r : ℕ) → passedRows own state (r + 1) ≡ passedRows own state r ++ take (suc (column state r)) (own r)
 unfolding passedRows
 passed-next own state r = rw add-one
 
 -- ---- a loop that lowers the number of each group by the rows that the routers have passed, and has done so for the routers before r
-pub record Passing (group key : ℕ → ℕ) (order ends state low₀ : List ℕ) (r from : ℕ) (low : List ℕ) : Type 0 where
-  pub at : Turn order ends r from
+pub record Passing (group key ends state low₀ : List ℕ) (r from : ℕ) (low : List ℕ) : Type 0 where
+  pub at : Turn (length group) ends r from
   pub long : length low ≡ length low₀
-  pub done : (k : ℕ) → column low k ≡ leastOr (column low₀ k) key (keep (λ q. eqb (group q) k) (passedRows (ownRows order ends) state r))
+  pub done : (k : ℕ) → column low k ≡ leastOr (column low₀ k) (column key) (keep (λ q. eqb (column group q) k) (passedRows (ownPlaces ends) state r))
 
-module _ {group key : ℕ → ℕ} {order ends state low₀ : List ℕ} where
-  pub passing : startOf ends (length ends) ≡ length order → Passing group key order ends state low₀ 0 0 low₀
+module _ {group key ends state low₀ : List ℕ} where
+  pub passing : startOf ends (length ends) ≡ length group → Passing group key ends state low₀ 0 0 low₀
   unfolding passedRows
   passing e = record { at = turn e; long = refl; done = λ k. refl }
 
-  module _ {r from : ℕ} {low : List ℕ} (s : Passing group key order ends state low₀ r from low) where
-    pub passing-next : {n : ℕ} {low′ : List ℕ} → n ≡ min (suc (column state r)) (column ends r) → length low′ ≡ length low
-        → ((k : ℕ) → column low′ k ≡ leastOr (column low k) key (keep (λ q. eqb (group q) k) (take n (drop from order))))
-        → Passing group key order ends state low₀ (r + 1) (from + column ends r) low′
-    passing-next {n} {low′} e l h = record {
-      at = turn-next (s .at);
+  module _ {r from : ℕ} {low : List ℕ} (s : Passing group key ends state low₀ r from low) where
+    pub passing-end : length ends ≤ r → (k : ℕ) → column low k ≡ leastOr (column low₀ k) (column key) (keep (λ q. eqb (column group q) k) (passedRows (ownPlaces ends) state (length ends)))
+    passing-end l k = s .done k ∙ ap (λ (n : ℕ). leastOr (column low₀ k) (column key) (keep (λ q. eqb (column group q) k) (passedRows (ownPlaces ends) state n))) (omega (arith, s .at .within))
+
+    pub passing-next : {n : ℕ} {low′ : List ℕ} → r < length ends → n ≡ min (suc (column state r)) (column ends r) → length low′ ≡ length low
+        → ((k : ℕ) → column low′ k ≡ leastOr (column low k) (column (slice from n key)) (keep (λ q. eqb (column (slice from n group) q) k) (span 0 (length (slice from n group)))))
+        → Passing group key ends state low₀ (r + 1) (from + column ends r) low′
+    passing-next {n} m e l h = record {
+      at = turn-next (s .at) m;
       long = l ∙ s .long;
-      done = λ k. let test : ℕ → Bool = λ q. eqb (group q) k in
-          let seen = passedRows (ownRows order ends) state r in
-          let part = take (suc (column state r)) (ownRows order ends r) in
+      done = λ k. let test : ℕ → Bool = λ q. eqb (column group q) k in
+          let seen = passedRows (ownPlaces ends) state r in
+          let part = take (suc (column state r)) (ownPlaces ends r) in
           h k
-          ∙ ap (λ (rows : List ℕ). leastOr (column low k) key (keep test rows)) (turn-front (s .at) (column state r) e)
-          ∙ ap (λ (past : ℕ). leastOr past key (keep test part)) (s .done k)
-          ∙ sym (leastOr-append (column low₀ k) key (keep test seen) (keep test part))
-          ∙ ap (leastOr (column low₀ k) key) (sym (keep-append test seen part) ∙ ap (keep test) (sym (passed-next (ownRows order ends) state r)));
+          ∙ ap (λ (z : ℕ). leastOr (column low k) (column (slice from n key)) (keep (λ q. eqb (column (slice from n group) q) k) (span 0 z))) (slice-long from n group (omega (arith, turn-room (s .at) m)))
+          ∙ shift-least (column low k) (column (slice from n key)) (column key) (λ q. eqb (column (slice from n group) q) k) test 0 from n
+          (λ i j. slice-at from n key i j) (λ i j. ap (λ (g : ℕ). eqb g k) (slice-at from n group i j))
+          ∙ ap (λ (rows : List ℕ). leastOr (column low k) (column key) (keep test rows)) part-is
+          ∙ ap (λ (past : ℕ). leastOr past (column key) (keep test part)) (s .done k)
+          ∙ sym (leastOr-append (column low₀ k) (column key) (keep test seen) (keep test part))
+          ∙ ap (leastOr (column low₀ k) (column key)) (sym (keep-append test seen part) ∙ ap (keep test) (sym (passed-next (ownPlaces ends) state r)));
     }
+      where
+        part-is : span from n ≡ take (suc (column state r)) (ownPlaces ends r)
+        part-is = ap₂ span (s .at .here) e ∙ sym (take-span (suc (column state r)) (startOf ends r) (column ends r))
+
+-- the first place of a router's part that passes is the first of its places
+pub slice-first : {n r from : ℕ} {ends : List ℕ} (group med low : List ℕ) → Turn n ends r from → from + column ends r ≤ length group
+    → firstPlace (λ q. not (ltb (column low (column (slice from (column ends r) group) q)) (column (slice from (column ends r) med) q))) (span 0 (length (slice from (column ends r) group)))
+    ≡ firstPlace (λ q. not (ltb (column low (column group q)) (column med q))) (ownPlaces ends r)
+slice-first {r} {from} {ends} group med low t l =
+    let n = column ends r in
+    let g = slice from n group in
+    let d = slice from n med in
+    let spared : ℕ → Bool = λ q. not (ltb (column low (column group q)) (column med q)) in
+    ap (λ (z : ℕ). firstPlace (λ q. not (ltb (column low (column g q)) (column d q))) (span 0 z)) (slice-long from n group l)
+    ∙ shift-first (λ q. not (ltb (column low (column g q)) (column d q))) spared 0 from n
+    (λ i j. ap₂ (λ (x y : ℕ). not (ltb (column low x) y)) (slice-at from n group i j) (slice-at from n med i j))
+    ∙ ap (λ (s : ℕ). firstPlace spared (span s n)) (t .here)
+
 -- ---- the lowest number of each group tells the first place that nothing passed beats
 
 firstPlace-agree : (t u : ℕ → Bool) (rows : List ℕ) → Agree t u rows → firstPlace t rows ≡ firstPlace u rows
 firstPlace-agree t u [] h = refl
 firstPlace-agree t u (q ∷ rows) h = rw (h q (here refl), firstPlace-agree t u rows (λ z m. h z (there m)))
 
--- the rows of a router are inside
-pub own-inside : {n : ℕ} {order : List ℕ} (ends : List ℕ) (r : ℕ) → Inside n order → Inside n (ownRows order ends r)
-own-inside ends r h = inside-take (column ends r) (inside-drop (startOf ends r) h)
-
-pub round-low : {group med order ends : List ℕ} → Ready group med order ends → (state low : List ℕ)
+pub round-low : {group med ends : List ℕ} → Ready group med ends → (state low : List ℕ)
     → ((q : ℕ) → column med q ≤ pastKeys)
-    → ((k : ℕ) → k < mostRows → column low k ≡ leastOr pastKeys (column med) (keep (λ q. eqb (column group q) k) (passedRows (ownRows order ends) state (length ends))))
-    → table (length ends) (λ r. firstPlace (λ q. not (ltb (column low (column group q)) (column med q))) (ownRows order ends r))
-    ≡ roundBy (beatsBy (column group) (column med)) (ownRows order ends) (length ends) state
-round-low {group} {med} {order} {ends} ready state low high lows =
-    table-same (λ r. firstPlace spared (ownRows order ends r)) (λ r. firstPlace free (ownRows order ends r)) (length ends)
-    (λ r l. firstPlace-agree spared free (ownRows order ends r) (λ q m.
-    ap not (ap (λ (k : ℕ). ltb k (column med q)) (lows (column group q) (ready .grouped q (inside-in (ownRows order ends r) (own-inside ends r (ready .inside)) m)))
+    → ((k : ℕ) → k < mostRows → column low k ≡ leastOr pastKeys (column med) (keep (λ q. eqb (column group q) k) (passedRows (ownPlaces ends) state (length ends))))
+    → table (length ends) (λ r. firstPlace (λ q. not (ltb (column low (column group q)) (column med q))) (ownPlaces ends r))
+    ≡ roundBy (beatsBy (column group) (column med)) (ownPlaces ends) (length ends) state
+round-low {group} {med} {ends} ready state low high lows =
+    table-same (λ r. firstPlace spared (ownPlaces ends r)) (λ r. firstPlace free (ownPlaces ends r)) (length ends)
+    (λ r l. firstPlace-agree spared free (ownPlaces ends r) (λ q m.
+    ap not (ap (λ (k : ℕ). ltb k (column med q)) (lows (column group q) (ready .grouped q (omega (
+      arith,
+      in-span (startOf ends r) (column ends r) m,
+      start-next ends r,
+      start-le ends (suc r) (length ends) l,
+      ready .whole,
+    ))))
     ∙ sym (beaten-low (column group) (column med) pastKeys q (high q) seen))))
   where
     seen : List ℕ
-    seen = passedRows (ownRows order ends) state (length ends)
+    seen = passedRows (ownPlaces ends) state (length ends)
 
     spared : ℕ → Bool
     spared q = not (ltb (column low (column group q)) (column med q))
