@@ -67,28 +67,33 @@ start-le ends r (suc n) l = ⊎-elim
 
 -- a loop over routers, at r: so many rows are of the routers before it
 pub record Turn (order ends : List ℕ) (r from : ℕ) : Type 0 where
+  pub within : r ≤ length ends
   pub whole : startOf ends (length ends) ≡ length order
   pub here : from ≡ startOf ends r
 
 module _ {order ends : List ℕ} where
   pub turn : startOf ends (length ends) ≡ length order → Turn order ends 0 0
   unfolding startOf
-  turn e = record { whole = e; here = refl }
+  turn e = record { within = zero-le; whole = e; here = refl }
 
   module _ {r from : ℕ} (t : Turn order ends r from) where
-    pub turn-next : Turn order ends (r + 1) (from + column ends r)
-    turn-next = record { whole = t .whole; here = rw add-one (ap (λ (n : ℕ). n + column ends r) (t .here) ∙ sym (start-next ends r)) }
+    pub turn-next : r < length ends → Turn order ends (r + 1) (from + column ends r)
+    turn-next l = record { within = omega arith; whole = t .whole; here = rw add-one (ap (λ (n : ℕ). n + column ends r) (t .here) ∙ sym (start-next ends r)) }
 
     pub turn-room : r < length ends → from + column ends r ≤ length order
     turn-room l = omega (arith, t .here, t .whole, start-next ends r, start-le ends (suc r) (length ends) l)
 
-    -- the part of the list that is the router's own
-    pub turn-own : {n : ℕ} → n ≡ column ends r → take n (drop from order) ≡ ownRows order ends r
-    turn-own e = rw (e, t .here)
+    -- the slice of the list that is the router's own
+    pub turn-own : take (from + column ends r - from) (drop from order) ≡ ownRows order ends r
+    turn-own =
+        let e : from + column ends r - from ≡ column ends r = omega arith in
+        rw (e, t .here)
 
     -- and of that the part up to and at a place
-    pub turn-front : {n : ℕ} (place : ℕ) → n ≡ min (suc place) (column ends r) → take n (drop from order) ≡ take (suc place) (ownRows order ends r)
-    turn-front place e = rw (e, t .here) (sym (⊎-elim
+    turn-front : {n : ℕ} (place : ℕ) → n ≡ min (suc place) (column ends r) → take (from + n - from) (drop from order) ≡ take (suc place) (ownRows order ends r)
+    turn-front {n} place h =
+        let e : from + n - from ≡ min (suc place) (column ends r) = omega arith in
+        rw (e, t .here) (sym (⊎-elim
         (λ l. let c : min (suc place) (column ends r) ≡ suc place = omega arith in rw c (take-take (suc place) (column ends r) own l))
         (λ l. let c : min (suc place) (column ends r) ≡ column ends r = omega arith in
         rw c (take-all (suc place) (take (column ends r) own) (omega (arith, length-take (column ends r) own))))
@@ -113,11 +118,14 @@ module _ {group key : ℕ → ℕ} {order ends state low₀ : List ℕ} where
   passing e = record { at = turn e; long = refl; done = λ k. refl }
 
   module _ {r from : ℕ} {low : List ℕ} (s : Passing group key order ends state low₀ r from low) where
-    pub passing-next : {n : ℕ} {low′ : List ℕ} → n ≡ min (suc (column state r)) (column ends r) → length low′ ≡ length low
-        → ((k : ℕ) → column low′ k ≡ leastOr (column low k) key (keep (λ q. eqb (group q) k) (take n (drop from order))))
+    pub passing-end : length ends ≤ r → (k : ℕ) → column low k ≡ leastOr (column low₀ k) key (keep (λ q. eqb (group q) k) (passedRows (ownRows order ends) state (length ends)))
+    passing-end l k = s .done k ∙ ap (λ (n : ℕ). leastOr (column low₀ k) key (keep (λ q. eqb (group q) k) (passedRows (ownRows order ends) state n))) (omega (arith, s .at .within))
+
+    pub passing-next : {n : ℕ} {low′ : List ℕ} → r < length ends → n ≡ min (suc (column state r)) (column ends r) → length low′ ≡ length low
+        → ((k : ℕ) → column low′ k ≡ leastOr (column low k) key (keep (λ q. eqb (group q) k) (take (from + n - from) (drop from order))))
         → Passing group key order ends state low₀ (r + 1) (from + column ends r) low′
-    passing-next {n} {low′} e l h = record {
-      at = turn-next (s .at);
+    passing-next m e l h = record {
+      at = turn-next (s .at) m;
       long = l ∙ s .long;
       done = λ k. let test : ℕ → Bool = λ q. eqb (group q) k in
           let seen = passedRows (ownRows order ends) state r in

@@ -1,128 +1,89 @@
+-- `settle::advance` meets its contract. The places before r are brought up to date, and where none moved the state is as it came. Assumes nothing.
+use Prim.Native.Nat.{_+_, _-_, _≤_}
+use native.Mathlib.Omega.{arith}
+use mathlib.Core.Path.{_≡_, refl, ap, _∙_}
+use mathlib.Core.Bool.{not}
+use mathlib.Core.List.{List}
+use lib.Dec.{ltb}
+use lib.ListN.{length, drop, length-take}
+use denote.Ref.{now}
+use borrow.Author.Needs.{needs}
+use Rattle.model.specs.Rows.{column}
+use Rattle.model.specs.Listing.{ownRows, firstPlace}
+use Rattle.model.specs.LoopLaws.{Moved, moved, moved-none, moved-one, moved-end}
+use Rattle.model.specs.ListLaws.{inside-take, inside-drop}
+use Rattle.model.specs.RoundLaws.{Turn, turn, turn-next, turn-room, turn-own}
 use Rattle.settle.proofs.advance.Statement.{statement}
 use Rattle.settle.proofs.advance.Tie as tie
-use Rattle.settle.proofs.advance.Reads as reads
-use Rattle.settle.proofs.advance.Lts as lts
-use Rattle.group.proofs.first_spared.Reads as first-spared-reads
 
 abbrev Inv-loop : tie.InvT-loop
-Inv-loop order group med low ends state₀ from₀ moved₀ r₀ r-end state from moved r = ?
+Inv-loop order group med low ends state₀ from₀ moved₀ r₀ r-end state from moved r =
+    Turn order ends r from
+    × Moved (λ r. firstPlace (λ q. not (ltb (column low (column group q)) (column med q))) (ownRows order ends r)) (length ends) state₀ r state moved
 
 abbrev μ-loop : tie.MeasureT-loop
-μ-loop order group med low ends state₀ from₀ moved₀ r₀ r-end state from moved r = ?
+μ-loop order group med low ends state₀ from₀ moved₀ r₀ r-end state from moved r = length ends - r
 
--- src/lib.rt:63:5
-loop-holds : tie.Need-loop-holds Inv-loop μ-loop
-loop-holds c = ?
+abbrev start-of : tie.In-loop Inv-loop μ-loop → tie.Start Inv-loop μ-loop
+start-of c = search needs
 
--- src/lib.rt:64:25
-mul-to : tie.Need-mul-to Inv-loop μ-loop
-mul-to c = ?
+-- the rows of the router in turn are in the list
+room : (c : tie.In-loop Inv-loop μ-loop) → c .before .loop .from + column (now (start-of c .args .ends)) (c .before .loop .r) ≤ length (now (start-of c .args .order))
+room c = turn-room (c .before .loop .inv .0) (c .loop-test .taken)
 
--- src/lib.rt:64:25
-shared-slice-read-to : tie.Need-shared-slice-read-to Inv-loop μ-loop
-shared-slice-read-to c = ?
+-- so the place of the first of them that is spared is found
+found : (c : tie.After-first-spared Inv-loop μ-loop) → let turn : tie.In-loop Inv-loop μ-loop = search needs in let a = start-of turn .args in
+    c .first-spared .result ≡ firstPlace (λ q. not (ltb (column (now (a .low)) (column (now (a .group)) q)) (column (now (a .med)) q))) (ownRows (now (a .order)) (now (a .ends)) (turn .before .loop .r))
+found c =
+    let turn : tie.In-loop Inv-loop μ-loop = search needs in
+    let a = start-of turn .args in
+    c .first-spared .ensures
+    ∙ ap (firstPlace (λ q. not (ltb (column (now (a .low)) (column (now (a .group)) q)) (column (now (a .med)) q)))) (turn-own (turn .before .loop .inv .0))
 
--- src/lib.rt:64:25
 cast-to : tie.Need-cast-to Inv-loop μ-loop
-cast-to c = ?
+cast-to c =
+    let turn : tie.In-loop Inv-loop μ-loop = search needs in
+    record { fits = omega (arith, room turn, start-of turn .pre .0 .rows) }
 
--- src/lib.rt:64:18
 add-to : tie.Need-add-to Inv-loop μ-loop
-add-to c = ?
+add-to c =
+    let turn : tie.In-loop Inv-loop μ-loop = search needs in
+    record { fits = omega (arith, room turn, start-of turn .pre .0 .rows) }
 
--- src/lib.rt:65:58
 mul-first-spared : tie.Need-mul-first-spared Inv-loop μ-loop
-mul-first-spared c = ?
+mul-first-spared c =
+    let turn : tie.In-loop Inv-loop μ-loop = search needs in
+    record { fits = omega (arith, room turn, start-of turn .pre .0 .rows) }
 
--- src/lib.rt:65:58
-sub-first-spared : tie.Need-sub-first-spared Inv-loop μ-loop
-sub-first-spared c = ?
-
--- src/lib.rt:65:58
-part-first-spared-start : tie.Need-part-first-spared-start Inv-loop μ-loop
-part-first-spared-start c = ?
-
--- src/lib.rt:65:58
 part-first-spared-end : tie.Need-part-first-spared-end Inv-loop μ-loop
-part-first-spared-end c = ?
+part-first-spared-end c =
+    let turn : tie.In-loop Inv-loop μ-loop = search needs in
+    room turn
 
--- src/lib.rt:65:13
 first-spared-requires : tie.Need-first-spared-requires Inv-loop μ-loop
-first-spared-requires c κs = ?
+first-spared-requires c κs =
+    let turn : tie.In-loop Inv-loop μ-loop = search needs in
+    let start = start-of turn in
+    let ready = start .pre .0 in
+    let from = turn .before .loop .from in
+    let n = from + column (now (start .args .ends)) (turn .before .loop .r) - from in
+    (inside-take n (inside-drop from (ready .inside)), omega (arith, length-take n (drop from (now (start .args .order))), room turn, ready .rows), ready .med-long, λ q l. omega (arith, ready .grouped q l, start .pre .1 .1))
 
--- src/lib.rt:67:21
-mul-if1 : tie.Need-mul-if1 Inv-loop μ-loop
-mul-if1 c = ?
-
--- src/lib.rt:67:21
-slice-read-if1 : tie.Need-slice-read-if1 Inv-loop μ-loop
-slice-read-if1 c = ?
-
--- src/lib.rt:68:13
-add-r : tie.Need-add-r Inv-loop μ-loop
-add-r c = ?
-
--- src/lib.rt:63:5
-loop-less : tie.Need-loop-less Inv-loop μ-loop
-loop-less c = ?
-
--- src/lib.rt:63:5
 loop-again : tie.Need-loop-again Inv-loop μ-loop
-loop-again c = ?
+loop-again c =
+    let turn : tie.In-loop Inv-loop μ-loop = search needs in
+    let asked : tie.After-first-spared Inv-loop μ-loop = search needs in
+    let branch : tie.Then1 Inv-loop μ-loop = search needs in
+    let l = turn .loop-test .taken in
+    (turn-next (turn .before .loop .inv .0) l, moved-none (turn .before .loop .inv .1) l (found asked) (branch .if1 .taken))
 
--- src/lib.rt:70:9
-mul-state : tie.Need-mul-state Inv-loop μ-loop
-mul-state c = ?
-
--- src/lib.rt:70:9
-slice-write-state : tie.Need-slice-write-state Inv-loop μ-loop
-slice-write-state c = ?
-
--- src/lib.rt:63:9
-add-r-2 : tie.Need-add-r-2 Inv-loop μ-loop
-add-r-2 c = ?
-
--- src/lib.rt:63:5
-loop-less-2 : tie.Need-loop-less-2 Inv-loop μ-loop
-loop-less-2 c = ?
-
--- src/lib.rt:63:5
 loop-again-2 : tie.Need-loop-again-2 Inv-loop μ-loop
-loop-again-2 c = ?
-
--- src/lib.rt:49:1
-same-length : tie.Need-same-length Inv-loop μ-loop
-same-length c = ?
-
--- src/lib.rt:49:1
-returns : tie.Need-returns Inv-loop μ-loop
-returns c = ?
+loop-again-2 c =
+    let turn : tie.In-loop Inv-loop μ-loop = search needs in
+    let asked : tie.After-first-spared Inv-loop μ-loop = search needs in
+    let l = turn .loop-test .taken in
+    (turn-next (turn .before .loop .inv .0) l, moved-one (turn .before .loop .inv .1) l (found asked))
 
 pub advance-spec : {M : Type 1} → statement M
 advance-spec =
-    tie.close
-    (tie.spec
-    Inv-loop
-    μ-loop
-    loop-holds
-    mul-to
-    shared-slice-read-to
-    cast-to
-    add-to
-    mul-first-spared
-    sub-first-spared
-    part-first-spared-start
-    part-first-spared-end
-    first-spared-requires
-    mul-if1
-    slice-read-if1
-    add-r
-    loop-less
-    loop-again
-    mul-state
-    slice-write-state
-    add-r-2
-    loop-less-2
-    loop-again-2
-    same-length
-    returns)
+    tie.close (tie.spec Inv-loop μ-loop (λ c. search (turn, moved, needs)) (λ c. search needs) (λ c. search needs) cast-to add-to mul-first-spared (λ c. search needs) (λ c. search needs) part-first-spared-end first-spared-requires (λ c. search needs) (λ c. search needs) (λ c. search needs) (λ c. search needs) loop-again (λ c. search needs) (λ c. search needs) (λ c. search needs) (λ c. search needs) loop-again-2 (λ c. search needs) (λ c. moved-end (c .before .loop .inv .1) (c .loop-test .left)))

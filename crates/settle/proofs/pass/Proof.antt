@@ -1,124 +1,68 @@
+-- `settle::pass` meets its contract. Each group has the least MED of the passed rows of the routers before r. Assumes nothing.
+use Prim.Native.Nat.{_+_, _-_, _≤_}
+use native.Mathlib.Omega.{arith}
+use lib.ListN.{length}
+use denote.Ref.{now}
+use borrow.Author.Needs.{needs}
+use Rattle.model.specs.Rows.{column}
+use Rattle.model.specs.ListLaws.{inside-take, inside-drop}
+use Rattle.model.specs.RoundLaws.{Passing, passing, passing-next, passing-end, turn-room}
 use Rattle.settle.proofs.pass.Statement.{statement}
 use Rattle.settle.proofs.pass.Tie as tie
-use Rattle.settle.proofs.pass.Reads as reads
-use Rattle.settle.proofs.pass.Lts as lts
-use Rattle.group.proofs.lower.Reads as lower-reads
-use Rattle.settle.proofs.reach.Reads as reach-reads
 
 abbrev Inv-loop : tie.InvT-loop
-Inv-loop order group med ends state low₀ from₀ r₀ r-end low from r = ?
+Inv-loop order group med ends state low₀ from₀ r₀ r-end low from r = Passing (column group) (column med) order ends state low₀ r from low
 
 abbrev μ-loop : tie.MeasureT-loop
-μ-loop order group med ends state low₀ from₀ r₀ r-end low from r = ?
+μ-loop order group med ends state low₀ from₀ r₀ r-end low from r = length ends - r
 
--- src/lib.rt:40:5
-loop-holds : tie.Need-loop-holds Inv-loop μ-loop
-loop-holds c = ?
+abbrev start-of : tie.In-loop Inv-loop μ-loop → tie.Start Inv-loop μ-loop
+start-of c = search needs
 
--- src/lib.rt:41:31
-mul-reach : tie.Need-mul-reach Inv-loop μ-loop
-mul-reach c = ?
+-- the rows of the router in turn are in the list
+room : (c : tie.In-loop Inv-loop μ-loop) → c .before .loop .from + column (now (start-of c .args .ends)) (c .before .loop .r) ≤ length (now (start-of c .args .order))
+room c = turn-room (c .before .loop .inv .at) (c .loop-test .taken)
 
--- src/lib.rt:41:31
-shared-slice-read-reach : tie.Need-shared-slice-read-reach Inv-loop μ-loop
-shared-slice-read-reach c = ?
-
--- src/lib.rt:41:41
-mul-reach-2 : tie.Need-mul-reach-2 Inv-loop μ-loop
-mul-reach-2 c = ?
-
--- src/lib.rt:41:41
-shared-slice-read-reach-2 : tie.Need-shared-slice-read-reach-2 Inv-loop μ-loop
-shared-slice-read-reach-2 c = ?
-
--- src/lib.rt:41:25
-reach-requires : tie.Need-reach-requires Inv-loop μ-loop
-reach-requires c κs = ?
-
--- src/lib.rt:41:18
 add-to : tie.Need-add-to Inv-loop μ-loop
-add-to c = ?
+add-to c =
+    let turn : tie.In-loop Inv-loop μ-loop = search needs in
+    record { fits = omega (arith, c .reach .ensures, room turn, start-of turn .pre .0 .rows) }
 
--- src/lib.rt:42:34
 mul-lower : tie.Need-mul-lower Inv-loop μ-loop
-mul-lower c = ?
+mul-lower c =
+    let turn : tie.In-loop Inv-loop μ-loop = search needs in
+    record { fits = omega (arith, room turn, start-of turn .pre .0 .rows) }
 
--- src/lib.rt:42:34
-sub-lower : tie.Need-sub-lower Inv-loop μ-loop
-sub-lower c = ?
-
--- src/lib.rt:42:34
-part-lower-start : tie.Need-part-lower-start Inv-loop μ-loop
-part-lower-start c = ?
-
--- src/lib.rt:42:34
 part-lower-end : tie.Need-part-lower-end Inv-loop μ-loop
-part-lower-end c = ?
+part-lower-end c =
+    let turn : tie.In-loop Inv-loop μ-loop = search needs in
+    omega (arith, c .reach .ensures, room turn)
 
--- src/lib.rt:42:9
 lower-requires : tie.Need-lower-requires Inv-loop μ-loop
-lower-requires c κs = ?
+lower-requires c κs =
+    let turn : tie.In-loop Inv-loop μ-loop = search needs in
+    let start = start-of turn in
+    let reached : tie.After-reach Inv-loop μ-loop = search needs in
+    let from = turn .before .loop .from in
+    (inside-take (from + reached .reach .result - from) (inside-drop from (start .pre .0 .inside)), start .pre .0 .med-long, λ q l. omega (arith, start .pre .0 .grouped q l, turn .before .loop .inv .long, start .pre .1 .1))
 
--- src/lib.rt:43:17
-mul-from : tie.Need-mul-from Inv-loop μ-loop
-mul-from c = ?
-
--- src/lib.rt:43:17
-shared-slice-read-from : tie.Need-shared-slice-read-from Inv-loop μ-loop
-shared-slice-read-from c = ?
-
--- src/lib.rt:43:17
 cast-from : tie.Need-cast-from Inv-loop μ-loop
-cast-from c = ?
+cast-from c =
+    let turn : tie.In-loop Inv-loop μ-loop = search needs in
+    record { fits = omega (arith, room turn, start-of turn .pre .0 .rows) }
 
--- src/lib.rt:43:9
 add-from : tie.Need-add-from Inv-loop μ-loop
-add-from c = ?
+add-from c =
+    let turn : tie.In-loop Inv-loop μ-loop = search needs in
+    record { fits = omega (arith, room turn, start-of turn .pre .0 .rows) }
 
--- src/lib.rt:40:9
-add-r : tie.Need-add-r Inv-loop μ-loop
-add-r c = ?
-
--- src/lib.rt:40:5
-loop-less : tie.Need-loop-less Inv-loop μ-loop
-loop-less c = ?
-
--- src/lib.rt:40:5
 loop-again : tie.Need-loop-again Inv-loop μ-loop
-loop-again c = ?
-
--- src/lib.rt:27:1
-same-length : tie.Need-same-length Inv-loop μ-loop
-same-length c = ?
-
--- src/lib.rt:27:1
-returns : tie.Need-returns Inv-loop μ-loop
-returns c = ?
+loop-again c =
+    let turn : tie.In-loop Inv-loop μ-loop = search needs in
+    let reached : tie.After-reach Inv-loop μ-loop = search needs in
+    let lowered : tie.After-lower Inv-loop μ-loop = search needs in
+    passing-next (turn .before .loop .inv) (turn .loop-test .taken) (reached .reach .ensures) (lowered .lower .kept .1 .1 .1 .0) (lowered .lower .ensures)
 
 pub pass-spec : {M : Type 1} → statement M
 pass-spec =
-    tie.close
-    (tie.spec
-    Inv-loop
-    μ-loop
-    loop-holds
-    mul-reach
-    shared-slice-read-reach
-    mul-reach-2
-    shared-slice-read-reach-2
-    reach-requires
-    add-to
-    mul-lower
-    sub-lower
-    part-lower-start
-    part-lower-end
-    lower-requires
-    mul-from
-    shared-slice-read-from
-    cast-from
-    add-from
-    add-r
-    loop-less
-    loop-again
-    same-length
-    returns)
+    tie.close (tie.spec Inv-loop μ-loop (λ c. search (passing, needs)) (λ c. search needs) (λ c. search needs) (λ c. search needs) (λ c. search needs) (λ c κs. search needs) add-to mul-lower (λ c. search needs) (λ c. search needs) part-lower-end lower-requires (λ c. search needs) (λ c. search needs) cast-from add-from (λ c. search needs) (λ c. search needs) loop-again (λ c. search needs) (λ c. passing-end (c .before .loop .inv) (c .loop-test .left)))
