@@ -24,3 +24,4 @@ pub mod ListLaws
 pub mod ColumnLaws
 pub mod ListingLaws
 pub mod RoundLaws
+pub mod ArrangeLaws

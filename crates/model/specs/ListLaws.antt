@@ -41,9 +41,12 @@ inside-in [] h m = absurd (nowhere m)
 inside-in {n} {q} (p ∷ rows) h m =
     ⊎-elim (λ e. let b = h .below 0 (omega arith) in omega arith) (inside-in rows (record { below = λ i l. h .below (suc i) (omega arith) })) (in-cases m)
 
+pub inside-of : {n : ℕ} (rows : List ℕ) → ((q : ℕ) → In q rows → q < n) → Inside n rows
+inside-of rows h = record { below = λ i l. h (column rows i) (in-at rows i l) }
+
 -- members of rows that are inside are inside; so are those that a step keeps
 pub inside-part : {n : ℕ} {rows others : List ℕ} → Inside n rows → ((q : ℕ) → In q others → In q rows) → Inside n others
-inside-part {rows} {others} h part = record { below = λ i l. inside-in rows h (part (column others i) (in-at others i l)) }
+inside-part {rows} {others} h part = inside-of others (λ q m. inside-in rows h (part q m))
 
 pub inside-step : {n : ℕ} {good : ℕ → ℕ → Type 0} {step : List ℕ → List ℕ} → Picks good step → (rows : List ℕ) → Inside n rows → Inside n (step rows)
 inside-step p rows h = inside-part h (λ q m. p .from rows m)
