@@ -6,14 +6,14 @@ use native.Mathlib.Numerals.{add-one}
 use native.Mathlib.Omega.{arith}
 use mathlib.Core.Path.{_≡_, refl, sym, ap, _∙_}
 use mathlib.Core.Logic.{⊎-elim}
-use mathlib.Core.Bool.{Bool, cond, not}
+use mathlib.Core.Bool.{Bool, not}
 use mathlib.Core.List.{List, [], _∷_, _++_}
 use lib.Dec.{eqb, ltb}
 use lib.ListN.{length, take, drop, length-take}
 use lib.Seq.{take-all, take-take}
 use Rattle.model.specs.NumberLaws.{le-or-lt}
 use Rattle.model.specs.Rows.{keep, some, table, column}
-use Rattle.model.specs.RowLaws.{In, here, there, Agree, keep-append, table-same}
+use Rattle.model.specs.RowLaws.{here, there, Agree, keep-append, table-same}
 use Rattle.model.specs.Decision.{beatsBy}
 use Rattle.model.specs.Contest.{times, leastOr}
 use Rattle.model.specs.LeastLaws.{leastOr-append}
