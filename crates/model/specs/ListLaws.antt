@@ -7,17 +7,17 @@ use native.Mathlib.Numerals.{add-one}
 use native.Mathlib.Omega.{arith}
 use mathlib.Core.Path.{_≡_, refl, sym, ap, subst, _∙_}
 use mathlib.Core.Logic.{_⊎_, inl, inr, ⊎-elim}
-use mathlib.Core.Bool.{Bool, true, false, _||_, or-true, or-false}
+use mathlib.Core.Bool.{Bool, true, false}
 use mathlib.Core.List.{List, [], _∷_, _++_, append-nil, map-id}
 use lib.Dec.{eqb}
-use lib.ListN.{length, getD, take, drop, set, replicate, length-set, length-append, length-take, length-drop, length-replicate, getD-replicate, drop-of-length-le}
-use lib.Seq.{drop-cons, drop-drop, drop-set-lt, take-suc-set, take-append-le, take-length, length-take-le, append-snoc, getD-take, getD-drop, getD-set-same, getD-set-other, ext-getD}
+use lib.ListN.{length, getD, take, drop, set, length-set, length-append, length-take, length-drop, drop-of-length-le}
+use lib.Seq.{drop-cons, drop-drop, drop-set-lt, take-suc-set, take-append-le, take-length, length-take-le, append-snoc, getD-take, getD-drop, getD-set-same, getD-set-other}
 use borrow.Author.Tests.{eqb-true, eqb-false}
-use Rattle.model.specs.Rows.{keep, some, span, table, greatest, keepLeast, column}
+use Rattle.model.specs.Rows.{keep, some, span, greatest, keepLeast, column}
 use Rattle.model.specs.Contest.{leastOr}
-use Rattle.model.specs.Lent.{on, rowsOf, Inside, Front}
+use Rattle.model.specs.Lent.{Inside, Front}
 use Rattle.model.specs.Listing.{firstPlace}
-use Rattle.model.specs.RowLaws.{by, In, here, there, nowhere, in-cases, Agree, keep-agree, Filtered, filtered-self, in-span, table-length, table-at}
+use Rattle.model.specs.RowLaws.{by, In, here, there, nowhere, in-cases, Agree, in-span, table-at}
 use Rattle.model.specs.LeastLaws.{Picks, leastOr-past, leastOr-lower, keepLeast-agree}
 use Rattle.model.specs.LoopLaws.{Stored, stored-end}
 
@@ -41,9 +41,12 @@ inside-in [] h m = absurd (nowhere m)
 inside-in {n} {q} (p ∷ rows) h m =
     ⊎-elim (λ e. let b = h .below 0 (omega arith) in omega arith) (inside-in rows (record { below = λ i l. h .below (suc i) (omega arith) })) (in-cases m)
 
+pub inside-of : {n : ℕ} (rows : List ℕ) → ((q : ℕ) → In q rows → q < n) → Inside n rows
+inside-of rows h = record { below = λ i l. h (column rows i) (in-at rows i l) }
+
 -- members of rows that are inside are inside; so are those that a step keeps
 pub inside-part : {n : ℕ} {rows others : List ℕ} → Inside n rows → ((q : ℕ) → In q others → In q rows) → Inside n others
-inside-part {rows} {others} h part = record { below = λ i l. inside-in rows h (part (column others i) (in-at others i l)) }
+inside-part {rows} {others} h part = inside-of others (λ q m. inside-in rows h (part q m))
 
 pub inside-step : {n : ℕ} {good : ℕ → ℕ → Type 0} {step : List ℕ → List ℕ} → Picks good step → (rows : List ℕ) → Inside n rows → Inside n (step rows)
 inside-step p rows h = inside-part h (λ q m. p .from rows m)
@@ -92,12 +95,6 @@ front-next step {n} {m} {list} {lent} f g = record {
   few = omega (arith, g .few, length-append lent (drop n list));
   are = take-append-le m lent (drop n list) (g .few) ∙ front-of step f g .are;
 }
-
--- a front of room that holds one thing
-pub front-blank : {A : Type 0} (a : A) (n most : ℕ) → n ≤ most → take n (replicate most a) ≡ replicate n a
-front-blank a zero most l = refl
-front-blank a (suc n) zero l = absurd (not-suc-le-zero l)
-front-blank a (suc n) (suc most) l = ap (λ (rest : List _). a ∷ rest) (front-blank a n most (omega arith))
 
 -- ---- loops
 
@@ -323,48 +320,9 @@ module _ {f : ℕ → ℕ} {rows key₀ : List ℕ} where
     pub keyed-least : {n : ℕ} {list : List ℕ} → length rows ≤ i → Front n list (keepLeast (column key) rows) → Front n list (keepLeast f rows)
     keyed-least l e = front-is e (keepLeast-agree (column key) f rows (keyed-all l))
 
--- ---- a loop that sets the flag of each row of a list
-pub record Marks (rows : List ℕ) (flags₀ : List Bool) (i : ℕ) (flags : List Bool) : Type 0 where
-  pub long : length flags ≡ length flags₀
-  pub at : (q : ℕ) → Along (on flags₀ q || some (eqb q) rows) (λ rest. on flags q || some (eqb q) rest) rows i
-
-module _ {rows : List ℕ} {flags₀ : List Bool} where
-  pub marks : Marks rows flags₀ 0 flags₀
-  marks = record { long = refl; at = λ q. along refl }
-
-  module _ {i : ℕ} {flags : List Bool} (s : Marks rows flags₀ i flags) where
-    pub marks-next : {p : ℕ} → i < length rows → p ≡ column rows i → p < length flags₀ → Marks rows flags₀ (i + 1) (set flags p true)
-    marks-next {p} l here-is h = record {
-      long = length-set flags p true ∙ s .long;
-      at = λ q. along-next (s .at q) l (λ rest. rw (← here-is) (by (eqb q p)
-          (λ same. let set-here : on (set flags p true) q ≡ true = rw (eqb-true q p same) (getD-set-same flags p true false (omega (arith, s .long))) in
-          rw (same, set-here, or-true (on flags q)))
-          (λ other. rw (other, getD-set-other flags p q true false (eqb-false q p other)))));
-    }
-
-    pub marks-end : length rows ≤ i → flags ≡ table (length flags₀) (λ q. on flags₀ q || some (eqb q) rows)
-    marks-end l =
-        let f : ℕ → Bool = λ q. on flags₀ q || some (eqb q) rows in
-        let e = table-length (length flags₀) f in
-        ext-getD false flags (table (length flags₀) f) (s .long ∙ sym e)
-        (λ q m. sym (along-end (s .at q) l ∙ or-false (on flags q)) ∙ sym (table-at f false (length flags₀) q (omega (arith, s .long))))
-
 -- ---- every row, listed
 pub span-at : (n i : ℕ) → i < n → column (span 0 n) i ≡ i
 span-at n i l = rw (← map-id (span 0 n)) (table-at (λ k. k) 0 n i l)
 
 pub all-listed : {n : ℕ} {xs₀ xs : List ℕ} {i : ℕ} → Stored 0 (λ k. k) n xs₀ i xs → n ≤ i → xs ≡ span 0 n
 all-listed {n} s l = stored-end s l ∙ map-id (span 0 n)
-
--- ---- rows that filters leave of all rows are the rows of their flags
-pub marked-rows : (n : ℕ) {rows : List ℕ} {flags₀ flags : List Bool} → Filtered rows (span 0 n) → flags₀ ≡ replicate n false
-    → flags ≡ table (length flags₀) (λ q. on flags₀ q || some (eqb q) rows) → rowsOf flags ≡ rows
-marked-rows n {rows} {flags₀} {flags} f e d =
-    let long : length flags₀ ≡ n = ap length e ∙ length-replicate n false in
-    let all : length flags ≡ n = ap length d ∙ table-length (length flags₀) (λ q. on flags₀ q || some (eqb q) rows) ∙ long in
-    rw all (keep-agree (on flags) (λ q. some (eqb q) rows) (span 0 n) (λ q m. at q (omega (arith, in-span 0 n m)) long)) ∙ sym (filtered-self f)
-  where
-    at : (q : ℕ) → q < n → length flags₀ ≡ n → on flags q ≡ some (eqb q) rows
-    at q l long =
-        ap (λ (xs : List Bool). on xs q) d ∙ table-at (λ q. on flags₀ q || some (eqb q) rows) false (length flags₀) q (omega arith)
-        ∙ ap (λ (b : Bool). b || some (eqb q) rows) (ap (λ (xs : List Bool). on xs q) e ∙ getD-replicate n q false false l)

@@ -52,7 +52,7 @@ module _ (key : ℕ → ℕ) where
   group-first : (q : ℕ) → FirstOf (λ p. eqb (key p) (key q)) 0 q (groupBy key q)
   group-first q = first-of (λ p. eqb (key p) (key q)) 0 q q (omega arith)
 
-  group-le : (q : ℕ) → groupBy key q ≤ q
+  pub group-le : (q : ℕ) → groupBy key q ≤ q
   group-le q = group-first q .high
 
   -- a group is one of its own rows

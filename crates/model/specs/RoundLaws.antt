@@ -19,7 +19,7 @@ use Rattle.model.specs.Contest.{times, leastOr}
 use Rattle.model.specs.ContestLaws.{times-stays}
 use Rattle.model.specs.LeastLaws.{leastOr-append}
 use Rattle.model.specs.Columns.{mostRows, pastKeys}
-use Rattle.model.specs.Listing.{startOf, ownPlaces, passedRows, firstPlace, roundBy, Ready}
+use Rattle.model.specs.Listing.{startOf, ownRows, ownPlaces, passedRows, firstPlace, roundBy, Ready}
 use Rattle.model.specs.ListingLaws.{beaten-low}
 
 -- so many steps are done, and x is where they led
@@ -76,6 +76,12 @@ module _ {n : ℕ} {ends : List ℕ} where
 
     pub turn-room : r < length ends → from + column ends r ≤ n
     turn-room l = omega (arith, t .here, t .whole, start-next ends r, start-le ends (suc r) (length ends) l)
+
+    -- the slice of a list of rows that is the router's own
+    pub turn-own : (order : List ℕ) → take (from + column ends r - from) (drop from order) ≡ ownRows order ends r
+    turn-own order =
+        let e : from + column ends r - from ≡ column ends r = omega arith in
+        rw (e, t .here)
 
 -- ---- part of a column
 

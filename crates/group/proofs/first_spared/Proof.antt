@@ -1,46 +1,56 @@
--- `group::first_spared` meets its contract. No row before place i is spared. Assumes nothing.
-use Prim.Native.Nat.{_-_, _<_}
+-- `group::first_spared` meets its contract. No row before q is spared. Assumes nothing.
+use Prim.Native.Nat.{_-_}
 use native.Mathlib.Omega.{arith}
-use mathlib.Core.Bool.{not}
+use mathlib.Core.Path.{sym, ap, _∙_}
+use mathlib.Core.Bool.{Bool, not}
 use lib.ListN.{length}
 use lib.Dec.{ltb}
 use denote.Ref.{now}
 use borrow.Author.Needs.{needs}
-use Rattle.model.specs.Rows.{column}
-use Rattle.model.specs.ListLaws.{Leads, leads, leads-off, leads-hit, leads-end}
+use Rattle.model.specs.Rows.{span, column}
+use Rattle.model.specs.RowLaws.{length-span}
+use Rattle.model.specs.ListLaws.{Leads, leads, leads-off, leads-hit, leads-end, span-at}
 use Rattle.group.proofs.first_spared.Statement.{statement}
 use Rattle.group.proofs.first_spared.Tie as tie
 
 abbrev Inv-loop : tie.InvT-loop
-Inv-loop group med low rows i₀ i-end i = Leads (λ q. not (ltb (column low (column group q)) (column med q))) rows i
+Inv-loop group med low q₀ q-end q = Leads (λ z. not (ltb (column low (column group z)) (column med z))) (span 0 (length group)) q
 
 abbrev μ-loop : tie.MeasureT-loop
-μ-loop group med low rows i₀ i-end i = length rows - i
+μ-loop group med low q₀ q-end q = length group - q
+
+abbrev start-of : tie.In-loop Inv-loop μ-loop → tie.Start Inv-loop μ-loop
+start-of c = search needs
 
 spared-requires : tie.Need-spared-requires Inv-loop μ-loop
 spared-requires c κs =
-    let start : tie.Start Inv-loop μ-loop = search needs in
     let turn : tie.In-loop Inv-loop μ-loop = search needs in
-    let inside : c .at .result < length (now (start .args .group)) = omega (arith, c .at .ensures, start .pre .0 .below _ (turn .loop-test .taken)) in
-    (inside, start .pre .2, start .pre .3 _ inside)
+    let l = turn .loop-test .taken in
+    (l, start-of turn .pre .1, start-of turn .pre .2 _ l)
 
 returns : tie.Need-returns Inv-loop μ-loop
 returns c =
-    let at : tie.At-loop Inv-loop μ-loop = search needs in
     let turn : tie.In-loop Inv-loop μ-loop = search needs in
-    let row : tie.After-at Inv-loop μ-loop = search needs in
     let asked : tie.After-spared Inv-loop μ-loop = search needs in
     let branch : tie.Then1 Inv-loop μ-loop = search needs in
-    leads-hit (at .loop .inv) (turn .loop-test .taken) (rw (row .at .ensures) at (asked .spared .ensures)) (branch .if1 .taken)
+    let n = length (now (start-of turn .args .group)) in
+    let l = turn .loop-test .taken in
+    leads-hit (turn .before .loop .inv) (omega (arith, l, length-span 0 n)) (rw (span-at n (turn .before .loop .q) l) (asked .spared .ensures)) (branch .if1 .taken)
 
 loop-again : tie.Need-loop-again Inv-loop μ-loop
 loop-again c =
-    let at : tie.At-loop Inv-loop μ-loop = search needs in
     let turn : tie.In-loop Inv-loop μ-loop = search needs in
-    let row : tie.After-at Inv-loop μ-loop = search needs in
     let asked : tie.After-spared Inv-loop μ-loop = search needs in
-    leads-off (at .loop .inv) (turn .loop-test .taken) (rw (row .at .ensures) at (asked .spared .ensures)) (c .if1 .left)
+    let n = length (now (start-of turn .args .group)) in
+    let l = turn .loop-test .taken in
+    leads-off (turn .before .loop .inv) (omega (arith, l, length-span 0 n)) (rw (span-at n (turn .before .loop .q) l) (asked .spared .ensures)) (c .if1 .left)
+
+returns-2 : tie.Need-returns-2 Inv-loop μ-loop
+returns-2 c =
+    let start : tie.Start Inv-loop μ-loop = search needs in
+    let n = length (now (start .args .group)) in
+    sym (length-span 0 n) ∙ leads-end (c .before .loop .inv) (omega (arith, c .loop-test .left, length-span 0 n))
 
 pub first-spared-spec : {M : Type 1} → statement M
 first-spared-spec =
-    tie.close (tie.spec Inv-loop μ-loop (λ c. search leads) (λ c κs. search needs) spared-requires (λ c. search needs) returns (λ c. search needs) (λ c. search needs) loop-again (λ c. search needs) (λ c. search leads-end))
+    tie.close (tie.spec Inv-loop μ-loop (λ c. search leads) spared-requires (λ c. search needs) returns (λ c. search needs) (λ c. search needs) loop-again (λ c. search needs) returns-2)
