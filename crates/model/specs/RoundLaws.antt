@@ -86,7 +86,7 @@ module _ {n : ℕ} {ends : List ℕ} where
 -- ---- part of a column
 
 -- n entries of a column, from one on
-abbrev slice : ℕ → ℕ → List ℕ → List ℕ
+abbrev pub slice : ℕ → ℕ → List ℕ → List ℕ
 slice from n xs = take (from + n - from) (drop from xs)
 
 pub slice-long : (from n : ℕ) (xs : List ℕ) → from + n ≤ length xs → length (slice from n xs) ≡ n
@@ -97,6 +97,13 @@ slice-at from n xs i l =
     let e : from + n - from ≡ n = omega arith in
     let z : 0 + i ≡ i = omega arith in
     rw (e, z) (getD-take n (drop from xs) i 0 l ∙ getD-drop from xs i 0)
+
+-- where every entry of a column is below a number, so is every entry of a part
+pub slice-within : (from n most : ℕ) (xs : List ℕ) → from + n ≤ length xs → ((q : ℕ) → q < length xs → column xs q < most) → (q : ℕ) → q < length (slice from n xs) → column (slice from n xs) q < most
+slice-within from n most xs l f q m =
+    let k : q < n = omega (arith, slice-long from n xs l) in
+    let z : 0 + q ≡ q = omega arith in
+    omega (arith, f (from + q) (omega arith), ap (column (slice from n xs)) z, slice-at from n xs q k)
 
 -- what is found of numbers from a on is what is found of those from b on, where keys and tests agree
 shift-least : (past : ℕ) (key key′ : ℕ → ℕ) (test test′ : ℕ → Bool) (a b n : ℕ) → ((i : ℕ) → i < n → key (a + i) ≡ key′ (b + i)) → ((i : ℕ) → i < n → test (a + i) ≡ test′ (b + i))

@@ -8,7 +8,7 @@ use borrow.Author.Needs.{needs}
 use Rattle.model.specs.Rows.{column}
 use Rattle.model.specs.Decision.{beatsBy}
 use Rattle.model.specs.Contest.{times}
-use Rattle.model.specs.Listing.{ownRows, roundBy}
+use Rattle.model.specs.Listing.{ownPlaces, roundBy}
 use Rattle.settle.proofs.settled.Statement.{statement}
 use Rattle.settle.proofs.settled.Tie as tie
 
@@ -19,7 +19,7 @@ returns c =
     let done : tie.After-settle = search needs in
     let a = begun .args in
     done .settle .ensures
-    ∙ ap (λ (x : List ℕ). times (roundBy (beatsBy (column (now (a .group))) (column (now (a .med)))) (ownRows (now (a .order)) (now (a .ends))) (length (now (a .ends)))) (length (now (a .order))) x) (started .start .ensures)
+    ∙ ap (λ (x : List ℕ). times (roundBy (beatsBy (column (now (a .group))) (column (now (a .med)))) (ownPlaces (now (a .ends))) (length (now (a .ends)))) (length (now (a .group))) x) (started .start .ensures)
 
 pub settled-spec : {M : Type 1} → statement M
 settled-spec =
