@@ -20,7 +20,7 @@ use Rattle.model.specs.OrderLaws.{count-insert, insert-in, Ordered, Comp
 use Rattle.model.specs.Contest.{leastOr, times, end, repeat, bottom, top, earliest, latest, beatsOwnBy, aheadBy, contending, placeOf, contest, atPlace}
 use Rattle.model.specs.EarlyLateLaws.{contenders-items, item-contender, place-standing}
 use Rattle.model.specs.Columns.{Columns, lentMesh, routesMesh, Fits, mostRows}
-use Rattle.model.specs.Listing.{groupBy, orderBy, arrangedOn, arrangedBy, startOf, ownRows, unbeatenRuns, roundBy, startBy, settledBy, standsAt, Ready}
+use Rattle.model.specs.Listing.{groupBy, orderBy, arrangedOn, arrangedBy, startOf, ownRows, unbeatenRuns, preferredIn, countsIn, contendersIn, roundBy, startBy, settledBy, standsAt, Ready}
 use Rattle.model.specs.RowLaws.{by, both, or-cases, or-left, or-right, and-left, and-right, and-both, eq→eqb, In, here, there, nowhere, keep-in, keep-keep, some-kept, count-kept, count-length, count-le, count-all}
 use Rattle.model.specs.RowLaws.{Agree, keep-agree, some-agree, Filtered, filtered, filtered-keep, filtered-self, within, in-span, length-span, table-at, table-length, table-same}
 use Rattle.model.specs.ListLaws.{inside-part, inside-span, inside-long, span-at}
@@ -247,6 +247,10 @@ module _ (M : Mesh) (sound : Sound M) where
         ap (take (column ends r)) (from-start r (omega arith) ∙ run-next (M .router) (inOrder M) (order-rises M) r order ordered)
         ∙ take-at (keep (ownOf M r) order) (keep (λ q. leb (suc r) (M .router q)) order) (column ends r) (sym (ends-at r l ∙ count-length (ownOf M r) order))
 
+    -- all of them are counted
+    order-counted : startOf ends (length ends) ≡ length order
+    order-counted = ap (startOf ends) ends-length ∙ start-at (M .routers) (omega arith) ∙ ap length (sym order-whole)
+
   -- of the preferred rows in order, those of each router that no other of that router beats: the contenders in order
   module _ (rows order counts : List ℕ) (e : rows ≡ arrangedBy (inOrder M) (preferred M (all M))) (d : counts ≡ table (M .routers) (λ r. count (ownOf M r) rows))
       (o : order ≡ unbeatenRuns (beats M) (ownRows rows counts) (M .routers)) where
@@ -359,18 +363,7 @@ module _ (M : Mesh) (sound : Sound M) where
 
 -- ---- what the code finds
 
--- the preferred rows in order with how many there are of each router, the contenders in order likewise, and the group and MED of each
--- by its place in that list
-pub record Arranged (routers : ℕ) (t : Columns) (rows counts order ends asns group med : List ℕ) : Type 0 where
-  pub rows-are : rows ≡ arrangedBy (orderBy (column (t .router)) (column (t .nid)) (column (t .peer))) (preferred (routesMesh routers t) (span 0 (length (t .router))))
-  pub counts-are : counts ≡ table routers (λ r. count (λ q. eqb (column (t .router) q) r) rows)
-  pub order-are : order ≡ unbeatenRuns (beatsBy (column (t .asn)) (column (t .med))) (ownRows rows counts) routers
-  pub ends-are : ends ≡ table routers (λ r. count (λ q. eqb (column (t .router) q) r) order)
-  pub asns-are : asns ≡ table (length order) (λ k. column (t .asn) (column order k))
-  pub groups-are : group ≡ table (length order) (groupBy (column asns))
-  pub meds-are : med ≡ table (length order) (λ k. column (t .med) (column order k))
-
-module _ {routers : ℕ} {t : Columns} {rows counts order ends asns group med : List ℕ} (a : Arranged routers t rows counts order ends asns group med) (f : Fits routers t) where
+module _ (routers : ℕ) (t : Columns) (f : Fits routers t) where
   -- ids have nothing to do with a contest: any that differ make the prefix sound
   abbrev M : Mesh
   M = lentMesh routers (span 0 routers) [] t
@@ -383,24 +376,41 @@ module _ {routers : ℕ} {t : Columns} {rows counts order ends asns group med : 
     few = omega (arith, f .rows);
   }
 
-  same-here : Same order (contending M)
-  same-here = contenders-same M sound rows order counts (a .rows-are) (a .counts-are) (a .order-are)
+  -- the preferred rows are counted
+  pub preferred-counted : (counts : List ℕ) → counts ≡ countsIn (t .router) routers (preferredIn routers t) → startOf counts (length counts) ≡ length (preferredIn routers t)
+  preferred-counted counts e =
+      order-counted M sound (preferred M (all M)) (preferredIn routers t) counts (preferred-part M) (arranged-same M sound (preferred M (all M))) (arranged-in-order M sound (preferred M (all M)) (preferred-part M)) e
 
-  ordered-here : Ordered (inOrder M) order
-  ordered-here = contenders-ordered M sound rows order counts (a .rows-are) (a .counts-are) (a .order-are)
+-- the contenders of a prefix in order with how many there are of each router, and the AS, group and MED of each by its place in that list
+pub record Arranged (routers : ℕ) (t : Columns) (order ends asns group med : List ℕ) : Type 0 where
+  pub order-is : order ≡ contendersIn routers t
+  pub ends-are : ends ≡ countsIn (t .router) routers order
+  pub asns-are : asns ≡ table (length order) (λ k. column (t .asn) (column order k))
+  pub groups-are : group ≡ table (length order) (groupBy (column asns))
+  pub meds-are : med ≡ table (length order) (λ k. column (t .med) (column order k))
+
+module _ {routers : ℕ} {t : Columns} {order ends asns group med : List ℕ} (a : Arranged routers t order ends asns group med) (f : Fits routers t) where
+  abbrev N : Mesh
+  N = M routers t f
+
+  known : Sound N
+  known = sound routers t f
+
+  same-here : Same order (contending N)
+  same-here = contenders-same N known (preferredIn routers t) order (countsIn (t .router) routers (preferredIn routers t)) refl refl (a .order-is)
+
+  ordered-here : Ordered (inOrder N) order
+  ordered-here = contenders-ordered N known (preferredIn routers t) order (countsIn (t .router) routers (preferredIn routers t)) refl refl (a .order-is)
 
   ends-here : length ends ≡ routers
-  ends-here = ends-length M sound (contending M) order ends (contending-part M) same-here ordered-here (a .ends-are)
+  ends-here = ends-length N known (contending N) order ends (contending-part N) same-here ordered-here (a .ends-are)
 
   -- the lists by place are as long as the list of contenders
   group-here : length group ≡ length order
   group-here = ap length (a .groups-are) ∙ table-length (length order) (groupBy (column asns))
 
   whole-here : startOf ends (length ends) ≡ length order
-  whole-here =
-      ap (startOf ends) ends-here
-      ∙ start-at M sound (contending M) order ends (contending-part M) same-here ordered-here (a .ends-are) routers (omega arith)
-      ∙ ap length (sym (order-whole M sound (contending M) order ends (contending-part M) same-here ordered-here (a .ends-are)))
+  whole-here = order-counted N known (contending N) order ends (contending-part N) same-here ordered-here (a .ends-are)
 
   pub ready : Ready group med ends
   ready = record {
@@ -415,16 +425,16 @@ module _ {routers : ℕ} {t : Columns} {rows counts order ends asns group med : 
       order-few = omega (
         arith,
         f .rows,
-        length-same order (contending M) same-here,
-        ap length (contending-part M .kept),
-        count-length (contending-part M .test) (all M),
-        count-le (contending-part M .test) (λ q. true) (all M) (λ q m u. tt),
-        count-all (all M),
+        length-same order (contending N) same-here,
+        ap length (contending-part N .kept),
+        count-length (contending-part N .test) (all N),
+        count-le (contending-part N .test) (λ q. true) (all N) (λ q m u. tt),
+        count-all (all N),
         length-span 0 (length (t .router)),
       )
 
   -- what beats what, by place
-  agree-here : (p q : ℕ) → p < length order → q < length order → beatsBy (column group) (column med) p q ≡ beats M (column order p) (column order q)
+  agree-here : (p q : ℕ) → p < length order → q < length order → beatsBy (column group) (column med) p q ≡ beats N (column order p) (column order q)
   agree-here p q l m =
       ap₂ (λ (g d : List ℕ). beatsBy (column g) (column d) p q) (a .groups-are) (a .meds-are)
       ∙ beats-grouped (column asns) (column stored) (length order) p q l m
@@ -442,11 +452,11 @@ module _ {routers : ℕ} {t : Columns} {rows counts order ends asns group med : 
       stored = table (length order) metric′
 
   rest-here : (late : Bool) → table (length ends) (standsAt order ends (settledBy late group med ends))
-      ≡ table routers (atPlace M (repeat (contest M) (length (contending M)) (cond late (top (contest M)) (bottom (contest M)))))
+      ≡ table routers (atPlace N (repeat (contest N) (length (contending N)) (cond late (top (contest N)) (bottom (contest N)))))
   rest-here late =
       ap₂ (λ (step : List ℕ → List ℕ) (n : ℕ). table (length ends) (standsAt order ends (times step n (table (length ends) (startBy late ends)))))
-      (fun-ext (round-places order ends whole-here (beatsBy (column group) (column med)) (beats M) agree-here)) group-here
-      ∙ rest-is M sound order ends same-here ordered-here (a .ends-are) (beats M) (λ q m p n. refl) late
+      (fun-ext (round-places order ends whole-here (beatsBy (column group) (column med)) (beats N) agree-here)) group-here
+      ∙ rest-is N known order ends same-here ordered-here (a .ends-are) (beats N) (λ q m p n. refl) late
 
   pub rest-early : table (length ends) (standsAt order ends (settledBy false group med ends)) ≡ table routers (atPlace (routesMesh routers t) (earliest (contest (routesMesh routers t))))
   rest-early = rest-here false
