@@ -5,7 +5,7 @@ use Prim.Native.Nat.{ℕ, zero, suc, _+_, _-_, _≤_, _<_, min, max, zero-le}
 use native.Mathlib.Nat.{le-refl, not-suc-le-zero}
 use native.Mathlib.Numerals.{add-one}
 use native.Mathlib.Omega.{arith}
-use mathlib.Core.Path.{_≡_, refl, sym, ap, subst, _∙_}
+use mathlib.Core.Path.{_≡_, refl, sym, ap, ap₂, subst, _∙_}
 use mathlib.Core.Logic.{_⊎_, inl, inr, ⊎-elim}
 use mathlib.Core.Bool.{Bool, true, false}
 use mathlib.Core.List.{List, [], _∷_, _++_, append-nil, map-id}
@@ -17,7 +17,7 @@ use Rattle.model.specs.Rows.{keep, some, span, greatest, keepLeast, colu
 use Rattle.model.specs.Contest.{leastOr}
 use Rattle.model.specs.Lent.{Inside, Front}
 use Rattle.model.specs.Listing.{firstPlace}
-use Rattle.model.specs.RowLaws.{by, In, here, there, nowhere, in-cases, Agree, in-span, table-at}
+use Rattle.model.specs.RowLaws.{by, In, here, there, nowhere, in-cases, Agree, in-span, table-at, count-length, count-le, count-all}
 use Rattle.model.specs.LeastLaws.{Picks, leastOr-past, leastOr-lower, keepLeast-agree}
 use Rattle.model.specs.LoopLaws.{Stored, stored-end}
 
@@ -95,6 +95,29 @@ front-next step {n} {m} {list} {lent} f g = record {
   few = omega (arith, g .few, length-append lent (drop n list));
   are = take-append-le m lent (drop n list) (g .few) ∙ front-of step f g .are;
 }
+
+-- the front of a list is the front of a longer one
+pub front-wider : {n : ℕ} {list rows : List ℕ} (rest : List ℕ) → Front n list rows → Front n (list ++ rest) rows
+front-wider {n} {list} rest f = record { few = omega (arith, f .few, length-append list rest); are = take-append-le n list rest (f .few) ∙ f .are }
+
+-- a front, and behind it another
+take-plus : (xs ys : List ℕ) (n : ℕ) → take (length xs + n) (xs ++ ys) ≡ xs ++ take n ys
+take-plus [] ys n = let z : 0 + n ≡ n = omega arith in rw z
+take-plus (x ∷ xs) ys n =
+    let z : suc (length xs) + n ≡ suc (length xs + n) = omega arith in
+    rw z (ap (λ (rest : List ℕ). x ∷ rest) (take-plus xs ys n))
+
+pub front-append : {n m : ℕ} {list lent a b : List ℕ} → Front n list a → Front m lent b → Front (n + m) (take n list ++ lent) (a ++ b)
+front-append {n} {m} {list} {lent} f g =
+    let long = length-take-le n list (f .few) in
+    record {
+      few = omega (arith, long, g .few, length-append (take n list) lent);
+      are = ap (λ (k : ℕ). take (k + m) (take n list ++ lent)) (sym long) ∙ take-plus (take n list) lent m ∙ ap₂ (λ (x y : List ℕ). x ++ y) (f .are) (g .are);
+    }
+
+-- no step adds rows
+pub keep-short : (test : ℕ → Bool) (rows : List ℕ) → length (keep test rows) ≤ length rows
+keep-short test rows = omega (arith, count-length test rows, count-le test (λ q. true) rows (λ q m t. tt), count-all rows)
 
 -- ---- loops
 

@@ -9,17 +9,19 @@ use mathlib.Core.Logic.{⊎-elim}
 use mathlib.Core.Bool.{Bool, cond, not}
 use mathlib.Core.List.{List, [], _∷_, _++_}
 use lib.Dec.{eqb, ltb}
-use lib.ListN.{length, take, drop, length-drop}
+use lib.ListN.{length, take, drop, length-take, length-drop}
 use lib.Seq.{getD-take, getD-drop, length-take-le}
 use Rattle.model.specs.NumberLaws.{le-or-lt}
 use Rattle.model.specs.Rows.{keep, some, span, table, column}
 use Rattle.model.specs.RowLaws.{by, In, here, there, Agree, keep-append, in-span, table-same}
-use Rattle.model.specs.Decision.{beatsBy}
+use Rattle.model.specs.Decision.{beatsBy, unbeatenBy}
 use Rattle.model.specs.Contest.{times, leastOr}
 use Rattle.model.specs.ContestLaws.{times-stays}
 use Rattle.model.specs.LeastLaws.{leastOr-append}
 use Rattle.model.specs.Columns.{mostRows, pastKeys}
-use Rattle.model.specs.Listing.{startOf, ownRows, ownPlaces, passedRows, firstPlace, roundBy, Ready}
+use Rattle.model.specs.Listing.{startOf, ownRows, unbeatenRuns, ownPlaces, passedRows, firstPlace, roundBy, Ready}
+use Rattle.model.specs.Lent.{Front}
+use Rattle.model.specs.ListLaws.{front-is, front-long, front-wider, front-append, keep-short}
 use Rattle.model.specs.ListingLaws.{beaten-low}
 
 -- so many steps are done, and x is where they led
@@ -82,6 +84,43 @@ module _ {n : ℕ} {ends : List ℕ} where
     turn-own order =
         let e : from + column ends r - from ≡ column ends r = omega arith in
         rw (e, t .here)
+
+-- ---- a loop that packs the unbeaten rows of each router into the front of a list, and has done so for the routers before r
+pub record Packing (beat : ℕ → ℕ → Bool) (rows counts order₀ : List ℕ) (r from m : ℕ) (order : List ℕ) : Type 0 where
+  pub at : Turn (length rows) counts r from
+  pub few : m ≤ from
+  pub long : length order ≡ length order₀
+  pub front : Front m order (unbeatenRuns beat (ownRows rows counts) r)
+
+module _ {beat : ℕ → ℕ → Bool} {rows counts order₀ : List ℕ} where
+  pub packing : startOf counts (length counts) ≡ length rows → Packing beat rows counts order₀ 0 0 0 order₀
+  unfolding unbeatenRuns
+  packing e = record { at = turn e; few = zero-le; long = refl; front = record { few = zero-le; are = refl } }
+
+  module _ {r from m : ℕ} {order : List ℕ} (s : Packing beat rows counts order₀ r from m order) where
+    pub packing-next : {n : ℕ} {lent : List ℕ} (rest : List ℕ) → r < length counts → length (take m order ++ (lent ++ rest)) ≡ length order
+        → Front n lent (unbeatenBy beat (take (from + column counts r - from) (drop from rows)) (take (from + column counts r - from) (drop from rows)))
+        → Packing beat rows counts order₀ (r + 1) (from + column counts r) (m + n) (take m order ++ (lent ++ rest))
+    unfolding unbeatenRuns
+    packing-next {n} {lent} rest l e f =
+        let own = turn-own (s .at) rows in
+        let g : Front n lent (unbeatenBy beat (ownRows rows counts r) (ownRows rows counts r)) = front-is f (ap (λ (part : List ℕ). unbeatenBy beat part part) own) in
+        record {
+          at = turn-next (s .at) l;
+          few = omega (
+            arith,
+            s .few,
+            front-long g,
+            ap length (g .are),
+            keep-short (λ q. not (some (λ p. beat p q) (ownRows rows counts r))) (ownRows rows counts r),
+            length-take (column counts r) (drop (startOf counts r) rows),
+          );
+          long = e ∙ s .long;
+          front = rw add-one (front-append (s .front) (front-wider rest g));
+        }
+
+    pub packing-end : length counts ≤ r → Front m order (unbeatenRuns beat (ownRows rows counts) (length counts))
+    packing-end l = let e : r ≡ length counts = omega (arith, s .at .within) in rw e at (s .front)
 
 -- ---- part of a column
 
