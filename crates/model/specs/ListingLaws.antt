@@ -19,11 +19,12 @@ use Rattle.model.specs.Order.{insert}
 use Rattle.model.specs.OrderLaws.{count-insert, insert-in, Ordered, Comparable, insert-ordered, kept-comparable}
 use Rattle.model.specs.Contest.{leastOr, times, end, repeat, bottom, top, earliest, latest, beatsOwnBy, aheadBy, contending, placeOf, contest, atPlace}
 use Rattle.model.specs.EarlyLateLaws.{contenders-items, item-contender, place-standing}
+use Rattle.model.specs.Lent.{Inside}
 use Rattle.model.specs.Columns.{Columns, lentMesh, routesMesh, Fits, mostRows}
 use Rattle.model.specs.Listing.{groupBy, orderBy, arrangedOn, arrangedBy, startOf, ownRows, unbeatenRuns, preferredIn, countsIn, contendersIn, roundBy, startBy, settledBy, standsAt, Ready}
 use Rattle.model.specs.RowLaws.{by, both, or-cases, or-left, or-right, and-left, and-right, and-both, eq→eqb, In, here, there, nowhere, keep-in, keep-keep, some-kept, count-kept, count-length, count-le, count-all}
 use Rattle.model.specs.RowLaws.{Agree, keep-agree, some-agree, Filtered, filtered, filtered-keep, filtered-self, within, in-span, length-span, table-at, table-length, table-same}
-use Rattle.model.specs.ListLaws.{inside-part, inside-span, inside-long, span-at}
+use Rattle.model.specs.ListLaws.{inside-part, inside-span, span-at}
 use Rattle.model.specs.RunLaws.{Same, some-same, in-same, length-same, keep-append, leastOr-same, Places, at-places, ordered-places, runsBelow, run-next, runs-split, runs-whole, Listed, round-listed, round-places}
 
 -- ---- groups
@@ -380,6 +381,16 @@ module _ (routers : ℕ) (t : Columns) (f : Fits routers t) where
   pub preferred-counted : (counts : List ℕ) → counts ≡ countsIn (t .router) routers (preferredIn routers t) → startOf counts (length counts) ≡ length (preferredIn routers t)
   preferred-counted counts e =
       order-counted M sound (preferred M (all M)) (preferredIn routers t) counts (preferred-part M) (arranged-same M sound (preferred M (all M))) (arranged-in-order M sound (preferred M (all M)) (preferred-part M)) e
+
+  -- they are rows of the prefix, and so are the contenders
+  pub preferred-inside : Inside (length (t .router)) (preferredIn routers t)
+  preferred-inside = inside-part (inside-span (length (t .router)) refl)
+      (λ q m. within (preferred-part M) (in-same (preferredIn routers t) (preferred M (all M)) (arranged-same M sound (preferred M (all M))) q m))
+
+  pub contenders-inside : Inside (length (t .router)) (contendersIn routers t)
+  contenders-inside = inside-part (inside-span (length (t .router)) refl)
+      (λ q m. within (contending-part M) (in-same (contendersIn routers t) (contending M)
+      (contenders-same M sound (preferredIn routers t) (contendersIn routers t) (countsIn (t .router) routers (preferredIn routers t)) refl refl refl) q m))
 
 -- the contenders of a prefix in order with how many there are of each router, and the AS, group and MED of each by its place in that list
 pub record Arranged (routers : ℕ) (t : Columns) (order ends asns group med : List ℕ) : Type 0 where
