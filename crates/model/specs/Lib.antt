@@ -25,4 +25,5 @@ pub mod ColumnLaws
 pub mod RunLaws
 pub mod ListingLaws
 pub mod RoundLaws
+pub mod TurnLaws
 pub mod ArrangeLaws

@@ -9,7 +9,7 @@ use lib.Dec.{T, eqb, ltb, leb, eqb→eq, leb→le}
 use lib.ListN.{length, getD, take}
 use borrow.Author.Tests.{eqb-true, eqb-false, leb-true, leb-false, eq-eqb, ne-eqb, lt-ltb, le-leb, lt-leb}
 use Rattle.model.specs.Rows.{keep, some, count, column}
-use Rattle.model.specs.RowLaws.{by, In, here, there, nowhere, in-cases, empty-of, in-keep, keep-in, keep-keep, keep-all, some-kept, Agree, keep-agree, some-agree, count-all, count-length, table-same}
+use Rattle.model.specs.RowLaws.{by, In, here, there, nowhere, in-cases, empty-of, in-keep, keep-in, keep-keep, keep-all, keep-append, some-kept, Agree, keep-agree, some-agree, count-all, count-length, table-same}
 use Rattle.model.specs.Contest.{Contest, leastOr, end, passed, firstFree, refine}
 use Rattle.model.specs.LeastLaws.{leastOr-past, leastOr-le, le-leastOr}
 use Rattle.model.specs.OrderLaws.{Ordered, ordered-first, ordered-later}
@@ -114,10 +114,6 @@ module _ (key : ℕ → ℕ) where
     )
 
 -- ---- the runs of a list, key after key
-
-keep-append : (test : ℕ → Bool) (a b : List ℕ) → keep test (a ++ b) ≡ keep test a ++ keep test b
-keep-append test [] b = refl
-keep-append test (q ∷ a) b = by (test q) (λ e. rw (e, keep-append test a b)) (λ e. rw (e, keep-append test a b))
 
 -- the members with key 0, those with key 1, .. , each in their order
 abbrev pub runsBelow : (ℕ → ℕ) → List ℕ → ℕ → List ℕ

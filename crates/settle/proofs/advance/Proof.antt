@@ -11,7 +11,7 @@ use Rattle.model.specs.Rows.{column}
 use Rattle.model.specs.Listing.{ownRows, firstPlace}
 use Rattle.model.specs.LoopLaws.{Moved, moved, moved-none, moved-one, moved-end}
 use Rattle.model.specs.ListLaws.{inside-take, inside-drop}
-use Rattle.model.specs.RoundLaws.{Turn, turn, turn-next, turn-room, turn-own}
+use Rattle.model.specs.TurnLaws.{Turn, turn, turn-next, turn-room, turn-own}
 use Rattle.settle.proofs.advance.Statement.{statement}
 use Rattle.settle.proofs.advance.Tie as tie
 

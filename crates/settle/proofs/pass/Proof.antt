@@ -6,7 +6,7 @@ use denote.Ref.{now}
 use borrow.Author.Needs.{needs}
 use Rattle.model.specs.Rows.{column}
 use Rattle.model.specs.ListLaws.{inside-take, inside-drop}
-use Rattle.model.specs.RoundLaws.{Passing, passing, passing-next, passing-end, turn-room}
+use Rattle.model.specs.TurnLaws.{Passing, passing, passing-next, passing-end, turn-room}
 use Rattle.settle.proofs.pass.Statement.{statement}
 use Rattle.settle.proofs.pass.Tie as tie
 

@@ -11,7 +11,7 @@ use Rattle.model.specs.Rows.{keep, column}
 use Rattle.model.specs.Contest.{leastOr}
 use Rattle.model.specs.Columns.{mostRows, pastKeys}
 use Rattle.model.specs.Listing.{ownRows, passedRows}
-use Rattle.model.specs.RoundLaws.{round-low}
+use Rattle.model.specs.TurnLaws.{round-low}
 use Rattle.settle.proofs.round.Statement.{statement}
 use Rattle.settle.proofs.round.Tie as tie
 
