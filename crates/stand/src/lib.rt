@@ -1,12 +1,14 @@
 // The rows of its own at which each router stands when the contest of a prefix comes to rest, early and late, over lent columns.
 ghost use mathlib.Core.Path.{_≡_};
+ghost use mathlib.Core.List.{[]};
 ghost use Prim.Native.Nat.{_≤_};
 ghost use lib.ListN.{length, getD};
 ghost use Rattle.model.specs.Rows.{table};
 ghost use Rattle.model.specs.Decision.{none};
-ghost use Rattle.model.specs.Lent.{was, is};
-ghost use Rattle.model.specs.Columns.{mostRows, columns, Fits};
-ghost use Rattle.model.specs.Listing.{startOf, standsAt, settledBy, Ready, RestRows};
+ghost use Rattle.model.specs.Contest.{contending};
+ghost use Rattle.model.specs.Lent.{was, is, col, Front};
+ghost use Rattle.model.specs.Columns.{mostRows, columns, routesMesh, Fits};
+ghost use Rattle.model.specs.Listing.{orderBy, arrangedBy, startOf, standsAt, settledBy, Ready, RestRows};
 
 // The row listed at a place, or none.
 fn row_at(rows: &[u16], place: u32) -> u16
@@ -68,6 +70,28 @@ fn rest(
     rest_in(late, order, group, med, ends, &mut state[..routers], own);
 }
 
+// The contenders of all routers in order, at the front of `rows`, so many.
+fn listed(
+    router: &[u32],
+    asn: &[u32],
+    preference: &[u32],
+    path: &[u32],
+    origin: &[u32],
+    med: &[u32],
+    nid: &[u32],
+    peer: &[u32],
+    group: &mut [u32],
+    rows: &mut [u16],
+) -> usize
+    requires { ⌜ (length (now router) ≤ mostRows) × (length (now asn) ≡ length (now router)) × (length (now preference) ≡ length (now router)) × (length (now path) ≡ length (now router)) × (length (now origin) ≡ length (now router)) × (length (now med) ≡ length (now router)) ⌝ }
+    requires { ⌜ (length (now nid) ≡ length (now router)) × (length (now peer) ≡ length (now router)) × (length (now group) ≡ length (now router)) × (length (now rows) ≡ length (now router)) ⌝ }
+    ensures { λ n. ⌜ Front n (is rows) (arrangedBy (orderBy (col router) (col nid) (col peer)) (contending (routesMesh 0 (columns (was router) (was asn) (was preference) (was path) (was origin) (was med) [] [])))) ⌝ }
+{
+    let n = contender::contenders(router, asn, preference, path, origin, med, group, rows);
+    contender::arrange(router, nid, peer, &mut rows[..n]);
+    n
+}
+
 // The early and the late rows at which the routers stand, in the room that is lent.
 fn own_rows_in(
     router: &[u32],
@@ -88,8 +112,7 @@ fn own_rows_in(
     requires { ⌜ (length (now rows) ≡ length (now router)) × (length (now group) ≡ length (now router)) × (length (now ends) ≡ length (now early)) × (length (now late) ≡ length (now early)) ⌝ }
     ensures { λ _. ⌜ RestRows (length (was early)) (columns (was router) (was asn) (was preference) (was path) (was origin) (was med) (was nid) (was peer)) (is early) (is late) ⌝ }
 {
-    let n = contender::contenders(router, asn, preference, path, origin, med, group, rows);
-    contender::arrange(router, nid, peer, &mut rows[..n]);
+    let n = listed(router, asn, preference, path, origin, med, nid, peer, group, rows);
     contender::ends(router, &rows[..n], ends);
     group::groups(asn, asn, group);
     rest(false, &rows[..n], group, med, ends, early);

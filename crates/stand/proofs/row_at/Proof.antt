@@ -1,24 +1,24 @@
+-- `stand::row_at` meets its contract. By whether the place is in the list. Assumes nothing.
+use mathlib.Core.Path.{sym}
+use lib.ListN.{List·getD-eq-default}
+use denote.Ref.{now}
 use borrow.Author.Needs.{needs}
+use Rattle.model.specs.Decision.{none}
+use Rattle.model.specs.ColumnLaws.{getD-inside}
 use Rattle.stand.proofs.row_at.Statement.{statement}
 use Rattle.stand.proofs.row_at.Tie as tie
-use Rattle.stand.proofs.row_at.Reads as reads
-use Rattle.stand.proofs.row_at.Lts as lts
 
--- src/lib.rt:17:16
-mul-result : tie.Need-mul-result
-mul-result c = search needs
-
--- src/lib.rt:17:16
-shared-slice-read-result : tie.Need-shared-slice-read-result
-shared-slice-read-result c = search needs
-
--- src/lib.rt:17:9
 returns : tie.Need-returns
-returns c = ?
+returns c =
+    let start : tie.Start = search needs in
+    let some : tie.Then1 = search needs in
+    getD-inside (now (start .args .rows)) (start .args .place) 0 none (some .if1 .taken)
 
--- src/lib.rt:12:1
 returns-2 : tie.Need-returns-2
-returns-2 c = ?
+returns-2 c =
+    let start : tie.Start = search needs in
+    let past : tie.Else1 = search needs in
+    sym (List·getD-eq-default (now (start .args .rows)) none (past .if1 .left))
 
 pub row-at-spec : {M : Type 1} → statement M
-row-at-spec = tie.close (tie.spec mul-result shared-slice-read-result returns returns-2)
+row-at-spec = tie.close (tie.spec (λ c. search needs) (λ c. search needs) returns returns-2)

@@ -1,113 +1,60 @@
+-- `stand::rows_at` meets its contract. The rows of the routers before r are stored. Assumes nothing.
+use Prim.Native.Nat.{ℕ, _+_, _-_, _≤_}
+use native.Mathlib.Omega.{arith}
+use mathlib.Core.Path.{ap, _∙_}
+use mathlib.Core.List.{List}
+use lib.ListN.{length, getD}
+use denote.Ref.{now}
+use borrow.Author.Needs.{needs}
+use Rattle.model.specs.Rows.{column}
+use Rattle.model.specs.Decision.{none}
+use Rattle.model.specs.Listing.{standsAt}
+use Rattle.model.specs.LoopLaws.{Stored, stored, stored-next, stored-end}
+use Rattle.model.specs.TurnLaws.{Turn, turn, turn-next, turn-room, turn-own}
 use Rattle.stand.proofs.rows_at.Statement.{statement}
 use Rattle.stand.proofs.rows_at.Tie as tie
-use Rattle.stand.proofs.rows_at.Reads as reads
-use Rattle.stand.proofs.rows_at.Lts as lts
-use Rattle.stand.proofs.row_at.Reads as row-at-reads
 
 abbrev Inv-loop : tie.InvT-loop
-Inv-loop order ends state own₀ from₀ r₀ r-end own from r = ?
+Inv-loop order ends state own₀ from₀ r₀ r-end own from r = Turn order ends r from × Stored 0 (standsAt order ends state) (length ends) own₀ r own
 
 abbrev μ-loop : tie.MeasureT-loop
-μ-loop order ends state own₀ from₀ r₀ r-end own from r = ?
+μ-loop order ends state own₀ from₀ r₀ r-end own from r = length ends - r
 
--- src/lib.rt:28:5
-loop-holds : tie.Need-loop-holds Inv-loop μ-loop
-loop-holds c = ?
+abbrev start-of : tie.In-loop Inv-loop μ-loop → tie.Start Inv-loop μ-loop
+start-of c = search needs
 
--- src/lib.rt:29:25
-mul-to : tie.Need-mul-to Inv-loop μ-loop
-mul-to c = ?
+-- the rows of the router in turn are in the list
+room : (c : tie.In-loop Inv-loop μ-loop) → c .before .loop .from + column (now (start-of c .args .ends)) (c .before .loop .r) ≤ length (now (start-of c .args .order))
+room c = turn-room (c .before .loop .inv .0) (c .loop-test .taken)
 
--- src/lib.rt:29:25
-shared-slice-read-to : tie.Need-shared-slice-read-to Inv-loop μ-loop
-shared-slice-read-to c = ?
-
--- src/lib.rt:29:25
 cast-to : tie.Need-cast-to Inv-loop μ-loop
-cast-to c = ?
+cast-to c =
+    let turn : tie.In-loop Inv-loop μ-loop = search needs in
+    record { fits = omega (arith, room turn, start-of turn .pre .0) }
 
--- src/lib.rt:29:18
 add-to : tie.Need-add-to Inv-loop μ-loop
-add-to c = ?
+add-to c =
+    let turn : tie.In-loop Inv-loop μ-loop = search needs in
+    record { fits = omega (arith, room turn, start-of turn .pre .0) }
 
--- src/lib.rt:30:25
 mul-row-at : tie.Need-mul-row-at Inv-loop μ-loop
-mul-row-at c = ?
+mul-row-at c =
+    let turn : tie.In-loop Inv-loop μ-loop = search needs in
+    record { fits = omega (arith, room turn, start-of turn .pre .0) }
 
--- src/lib.rt:30:25
-sub-row-at : tie.Need-sub-row-at Inv-loop μ-loop
-sub-row-at c = ?
-
--- src/lib.rt:30:25
-part-row-at-start : tie.Need-part-row-at-start Inv-loop μ-loop
-part-row-at-start c = ?
-
--- src/lib.rt:30:25
 part-row-at-end : tie.Need-part-row-at-end Inv-loop μ-loop
-part-row-at-end c = ?
+part-row-at-end c =
+    let turn : tie.In-loop Inv-loop μ-loop = search needs in
+    room turn
 
--- src/lib.rt:30:43
-mul-row-at-2 : tie.Need-mul-row-at-2 Inv-loop μ-loop
-mul-row-at-2 c = ?
-
--- src/lib.rt:30:43
-shared-slice-read-row-at : tie.Need-shared-slice-read-row-at Inv-loop μ-loop
-shared-slice-read-row-at c = ?
-
--- src/lib.rt:30:18
-row-at-requires : tie.Need-row-at-requires Inv-loop μ-loop
-row-at-requires c κs = ?
-
--- src/lib.rt:30:9
-mul-own : tie.Need-mul-own Inv-loop μ-loop
-mul-own c = ?
-
--- src/lib.rt:30:9
-slice-write-own : tie.Need-slice-write-own Inv-loop μ-loop
-slice-write-own c = ?
-
--- src/lib.rt:28:9
-add-r : tie.Need-add-r Inv-loop μ-loop
-add-r c = ?
-
--- src/lib.rt:28:5
-loop-less : tie.Need-loop-less Inv-loop μ-loop
-loop-less c = ?
-
--- src/lib.rt:28:5
 loop-again : tie.Need-loop-again Inv-loop μ-loop
-loop-again c = ?
-
--- src/lib.rt:23:1
-same-length : tie.Need-same-length Inv-loop μ-loop
-same-length c = ?
-
--- src/lib.rt:23:1
-returns : tie.Need-returns Inv-loop μ-loop
-returns c = ?
+loop-again c =
+    let turn : tie.In-loop Inv-loop μ-loop = search needs in
+    let found : tie.After-row-at Inv-loop μ-loop = search needs in
+    let at = turn .before .loop in
+    let l = turn .loop-test .taken in
+    (turn-next (at .inv .0) l, stored-next (at .inv .1) l (found .row-at .ensures ∙ ap (λ (rows : List ℕ). getD rows (column (now (start-of turn .args .state)) (at .r)) none) (turn-own (at .inv .0))))
 
 pub rows-at-spec : {M : Type 1} → statement M
 rows-at-spec =
-    tie.close
-    (tie.spec
-    Inv-loop
-    μ-loop
-    loop-holds
-    mul-to
-    shared-slice-read-to
-    cast-to
-    add-to
-    mul-row-at
-    sub-row-at
-    part-row-at-start
-    part-row-at-end
-    mul-row-at-2
-    shared-slice-read-row-at
-    row-at-requires
-    mul-own
-    slice-write-own
-    add-r
-    loop-less
-    loop-again
-    same-length
-    returns)
+    tie.close (tie.spec Inv-loop μ-loop (λ c. search (turn, stored, needs)) (λ c. search needs) (λ c. search needs) cast-to add-to mul-row-at (λ c. search needs) (λ c. search needs) part-row-at-end (λ c. search needs) (λ c. search needs) (λ c κs. search needs) (λ c. search needs) (λ c. search needs) (λ c. search needs) (λ c. search needs) loop-again (λ c. search needs) (λ c. stored-end (c .before .loop .inv .1) (c .loop-test .left)))
