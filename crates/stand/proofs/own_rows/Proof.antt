@@ -9,8 +9,8 @@ own-rows-in-requires : tie.Need-own-rows-in-requires
 own-rows-in-requires c κs =
     let start : tie.Start = search needs in
     let fits = start .pre .0 in
-    (start .pre .0, (simp length-take (omega arith), simp length-take (omega arith), simp length-take (omega arith), simp length-take (omega arith), start .pre .1))
+    (start .pre .0, (simp length-take (omega arith), simp length-take (omega arith), simp length-take (omega arith), start .pre .1))
 
 pub own-rows-spec : {M : Type 1} → statement M
 own-rows-spec =
-    tie.close (tie.spec (λ c κs. search needs) (λ c κs. search needs) (λ c κs. search needs) (λ c κs. search needs) (λ c. search needs) (λ c. simp length-take (omega arith)) (λ c. search needs) (λ c. simp length-take (omega arith)) (λ c. search needs) (λ c. simp length-take (omega arith)) (λ c. search needs) (λ c. simp length-take (omega arith)) own-rows-in-requires (λ c. search needs) (λ c. search needs) (λ c. search needs))
+    tie.close (tie.spec (λ c κs. search needs) (λ c κs. search needs) (λ c κs. search needs) (λ c. search needs) (λ c. simp length-take (omega arith)) (λ c. search needs) (λ c. simp length-take (omega arith)) (λ c. search needs) (λ c. simp length-take (omega arith)) own-rows-in-requires (λ c. search needs) (λ c. search needs) (λ c. search needs))
