@@ -59,12 +59,16 @@ inside-span n e = subst (Inside n) (sym e) (record { below = λ i l. omega (arit
 
 -- so are those of a part of the list
 pub inside-take : {n : ℕ} {rows : List ℕ} (k : ℕ) → Inside n rows → Inside n (take k rows)
-inside-take {n} {rows} k h = record { below = λ i l. let m : i < min k (length rows) = subst (λ (z : ℕ). i < z) (length-take k rows) l in
-    let b = h .below i (omega arith) in rw (getD-take k rows i 0 (omega arith)) b }
+inside-take {n} {rows} k h = record {
+  below = λ i l. let m : i < min k (length rows) = subst (λ (z : ℕ). i < z) (length-take k rows) l in
+      let b = h .below i (omega arith) in rw (getD-take k rows i 0 (omega arith)) b;
+}
 
 pub inside-drop : {n : ℕ} {rows : List ℕ} (k : ℕ) → Inside n rows → Inside n (drop k rows)
-inside-drop {n} {rows} k h = record { below = λ i l. let m : i < length rows - k = subst (λ (z : ℕ). i < z) (length-drop k rows) l in
-    let b = h .below (k + i) (omega arith) in rw (getD-drop k rows i 0) b }
+inside-drop {n} {rows} k h = record {
+  below = λ i l. let m : i < length rows - k = subst (λ (z : ℕ). i < z) (length-drop k rows) l in
+      let b = h .below (k + i) (omega arith) in rw (getD-drop k rows i 0) b;
+}
 
 -- columns of one length
 pub inside-long : {m n : ℕ} {rows : List ℕ} → Inside m rows → n ≡ m → Inside n rows

@@ -106,6 +106,7 @@ module _ {group key : ℕ → ℕ} {order ends state low₀ : List ℕ} where
           ∙ sym (leastOr-append (column low₀ k) key (keep test seen) (keep test part))
           ∙ ap (leastOr (column low₀ k) key) (sym (keep-append test seen part) ∙ ap (keep test) (sym (passed-next (ownRows order ends) state r)));
     }
+
 -- ---- the lowest number of each group tells the first place that nothing passed beats
 
 firstPlace-agree : (t u : ℕ → Bool) (rows : List ℕ) → Agree t u rows → firstPlace t rows ≡ firstPlace u rows

@@ -24,14 +24,7 @@ fn reach(place: u32, end: u32) -> usize
 }
 
 // Lowers the number of each group to the least MED of the contenders that stand at or before the place that their router has.
-fn pass(
-    order: &[u16],
-    group: &[u32],
-    med: &[u32],
-    ends: &[u32],
-    state: &[u32],
-    low: &mut [u32],
-)
+fn pass(order: &[u16], group: &[u32], med: &[u32], ends: &[u32], state: &[u32], low: &mut [u32])
     requires { ⌜ Ready (now group) (now med) (now order) (now ends) ⌝ }
     requires { ⌜ (length (now state) ≡ length (now ends)) × (length (now low) ≡ mostRows) ⌝ }
     ensures { λ _. ⌜ ((k : ℕ) → column (is low) k ≡ leastOr (col low k) (col med) (keep (λ q. eqb (col group q) k) (passedRows (ownRows (was order) (was ends)) (was state) (length (was ends))))) ⌝ }

@@ -53,14 +53,7 @@ fn rest_in(
 }
 
 // The rows at which the routers stand where rounds lead from the late or the early start.
-fn rest(
-    late: bool,
-    order: &[u16],
-    group: &[u32],
-    med: &[u32],
-    ends: &[u32],
-    own: &mut [u16],
-)
+fn rest(late: bool, order: &[u16], group: &[u32], med: &[u32], ends: &[u32], own: &mut [u16])
     requires { ⌜ Ready (now group) (now med) (now order) (now ends) ⌝ }
     requires { ⌜ length (now own) ≡ length (now ends) ⌝ }
     ensures { λ _. ⌜ is own ≡ table (length (was ends)) (standsAt (was order) (was ends) (settledBy late (was group) (was med) (was order) (was ends))) ⌝ }
@@ -112,7 +105,18 @@ fn own_rows_in(
     requires { ⌜ (length (now rows) ≡ length (now router)) × (length (now group) ≡ length (now router)) × (length (now ends) ≡ length (now early)) × (length (now late) ≡ length (now early)) ⌝ }
     ensures { λ _. ⌜ RestRows (length (was early)) (columns (was router) (was asn) (was preference) (was path) (was origin) (was med) (was nid) (was peer)) (is early) (is late) ⌝ }
 {
-    let n = listed(router, asn, preference, path, origin, med, nid, peer, group, rows);
+    let n = listed(
+        router,
+        asn,
+        preference,
+        path,
+        origin,
+        med,
+        nid,
+        peer,
+        group,
+        rows,
+    );
     contender::ends(router, &rows[..n], ends);
     group::groups(asn, asn, group);
     rest(false, &rows[..n], group, med, ends, early);
