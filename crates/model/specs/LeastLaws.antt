@@ -145,7 +145,3 @@ module _ (f g : ℕ → ℕ) where
   pub keepLeast-agree : (rows : List ℕ) → Agree f g rows → keepLeast f rows ≡ keepLeast g rows
   keepLeast-agree rows h =
       keep-agree (λ q. eqb (f q) (least f rows)) (λ q. eqb (g q) (least g rows)) rows (λ q m. ap₂ eqb (h q m) (least-agree rows h))
-
-  pub leastOr-agree : (past : ℕ) (rows : List ℕ) → Agree f g rows → leastOr past f rows ≡ leastOr past g rows
-  leastOr-agree past [] h = refl
-  leastOr-agree past (q ∷ rows) h = ap₂ min (h q (here refl)) (leastOr-agree past rows (λ z m. h z (there m)))

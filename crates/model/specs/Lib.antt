@@ -25,4 +25,4 @@ pub mod ColumnLaws
 pub mod RunLaws
 pub mod ListingLaws
 pub mod RoundLaws
-pub mod ArrangeLaws
+pub mod InsertLaws

@@ -21,7 +21,7 @@ use Rattle.model.specs.Contest.{leastOr, times, end, repeat, bottom, top
 use Rattle.model.specs.EarlyLateLaws.{contenders-items, item-contender, place-standing}
 use Rattle.model.specs.Lent.{Inside}
 use Rattle.model.specs.Columns.{Columns, lentMesh, routesMesh, Fits, mostRows}
-use Rattle.model.specs.Listing.{groupBy, orderBy, arrangedOn, arrangedBy, startOf, ownRows, unbeatenRuns, preferredIn, countsIn, contendersIn, roundBy, startBy, settledBy, standsAt, Ready}
+use Rattle.model.specs.Listing.{groupBy, orderBy, arrangedOn, arrangedBy, startOf, ownRows, unbeatenRuns, preferredIn, countsIn, contendersIn, gathered, groupsIn, restIn, roundBy, startBy, settledBy, standsAt, Ready}
 use Rattle.model.specs.RowLaws.{by, both, or-cases, or-left, or-right, and-left, and-right, and-both, eq→eqb, In, here, there, nowhere, keep-in, keep-keep, some-kept, count-kept, count-length, count-le, count-all}
 use Rattle.model.specs.RowLaws.{Agree, keep-agree, some-agree, Filtered, filtered, filtered-keep, filtered-self, within, in-span, length-span, table-at, table-length, table-same}
 use Rattle.model.specs.ListLaws.{inside-part, inside-span, span-at}
@@ -392,65 +392,60 @@ module _ (routers : ℕ) (t : Columns) (f : Fits routers t) where
       (λ q m. within (contending-part M) (in-same (contendersIn routers t) (contending M)
       (contenders-same M sound (preferredIn routers t) (contendersIn routers t) (countsIn (t .router) routers (preferredIn routers t)) refl refl refl) q m))
 
--- the contenders of a prefix in order with how many there are of each router, and the AS, group and MED of each by its place in that list
-pub record Arranged (routers : ℕ) (t : Columns) (order ends asns group med : List ℕ) : Type 0 where
-  pub order-is : order ≡ contendersIn routers t
-  pub ends-are : ends ≡ countsIn (t .router) routers order
-  pub asns-are : asns ≡ table (length order) (λ k. column (t .asn) (column order k))
-  pub groups-are : group ≡ table (length order) (groupBy (column asns))
-  pub meds-are : med ≡ table (length order) (λ k. column (t .med) (column order k))
+  -- the contenders by place, as rounds have them
+  abbrev order : List ℕ
+  order = contendersIn routers t
 
-module _ {routers : ℕ} {t : Columns} {order ends asns group med : List ℕ} (a : Arranged routers t order ends asns group med) (f : Fits routers t) where
-  abbrev N : Mesh
-  N = M routers t f
+  abbrev ends : List ℕ
+  ends = countsIn (t .router) routers order
 
-  known : Sound N
-  known = sound routers t f
+  abbrev group : List ℕ
+  group = groupsIn (t .asn) order
 
-  same-here : Same order (contending N)
-  same-here = contenders-same N known (preferredIn routers t) order (countsIn (t .router) routers (preferredIn routers t)) refl refl (a .order-is)
+  abbrev med : List ℕ
+  med = gathered (t .med) order
 
-  ordered-here : Ordered (inOrder N) order
-  ordered-here = contenders-ordered N known (preferredIn routers t) order (countsIn (t .router) routers (preferredIn routers t)) refl refl (a .order-is)
+  same-here : Same order (contending M)
+  same-here = contenders-same M sound (preferredIn routers t) order (countsIn (t .router) routers (preferredIn routers t)) refl refl refl
 
-  ends-here : length ends ≡ routers
-  ends-here = ends-length N known (contending N) order ends (contending-part N) same-here ordered-here (a .ends-are)
-
-  -- the lists by place are as long as the list of contenders
-  group-here : length group ≡ length order
-  group-here = ap length (a .groups-are) ∙ table-length (length order) (groupBy (column asns))
+  ordered-here : Ordered (inOrder M) order
+  ordered-here = contenders-ordered M sound (preferredIn routers t) order (countsIn (t .router) routers (preferredIn routers t)) refl refl refl
 
   whole-here : startOf ends (length ends) ≡ length order
-  whole-here = order-counted N known (contending N) order ends (contending-part N) same-here ordered-here (a .ends-are)
+  whole-here = order-counted M sound (contending M) order ends (contending-part M) same-here ordered-here refl
+
+  ends-here : length ends ≡ routers
+  ends-here = table-length routers (λ r. count (λ q. eqb (column (t .router) q) r) order)
+
+  group-here : length group ≡ length order
+  group-here = table-length (length order) (groupBy (column (gathered (t .asn) order)))
+
+  pub contenders-few : length order ≤ mostRows
+  contenders-few = omega (
+    arith,
+    f .rows,
+    length-same order (contending M) same-here,
+    ap length (contending-part M .kept),
+    count-length (contending-part M .test) (all M),
+    count-le (contending-part M .test) (λ q. true) (all M) (λ q m u. tt),
+    count-all (all M),
+    length-span 0 (length (t .router)),
+  )
 
   pub ready : Ready group med ends
   ready = record {
     few = omega (arith, f .few, ends-here);
-    rows = omega (arith, group-here, order-few);
-    med-long = ap length (a .meds-are) ∙ table-length (length order) (λ k. column (t .med) (column order k)) ∙ sym group-here;
-    grouped = λ q l. group-within (column asns) (length order) mostRows (a .groups-are) order-few q (omega (arith, group-here));
+    rows = omega (arith, group-here, contenders-few);
+    med-long = table-length (length order) (λ k. column (t .med) (column order k)) ∙ sym group-here;
+    grouped = λ q l. group-within (column (gathered (t .asn) order)) (length order) mostRows refl contenders-few q (omega (arith, group-here));
     whole = whole-here ∙ sym group-here;
   }
-    where
-      order-few : length order ≤ mostRows
-      order-few = omega (
-        arith,
-        f .rows,
-        length-same order (contending N) same-here,
-        ap length (contending-part N .kept),
-        count-length (contending-part N .test) (all N),
-        count-le (contending-part N .test) (λ q. true) (all N) (λ q m u. tt),
-        count-all (all N),
-        length-span 0 (length (t .router)),
-      )
 
   -- what beats what, by place
-  agree-here : (p q : ℕ) → p < length order → q < length order → beatsBy (column group) (column med) p q ≡ beats N (column order p) (column order q)
+  agree-here : (p q : ℕ) → p < length order → q < length order → beatsBy (column group) (column med) p q ≡ beats M (column order p) (column order q)
   agree-here p q l m =
-      ap₂ (λ (g d : List ℕ). beatsBy (column g) (column d) p q) (a .groups-are) (a .meds-are)
-      ∙ beats-grouped (column asns) (column stored) (length order) p q l m
-      ∙ ap (λ (xs : List ℕ). beatsBy (column xs) (column stored) p q) (a .asns-are)
-      ∙ ap₂ (λ (x y : ℕ). eqb x y && ltb (column stored p) (column stored q)) (table-at asn 0 (length order) p l) (table-at asn 0 (length order) q m)
+      beats-grouped (column (gathered (t .asn) order)) (column med) (length order) p q l m
+      ∙ ap₂ (λ (x y : ℕ). eqb x y && ltb (column med p) (column med q)) (table-at asn 0 (length order) p l) (table-at asn 0 (length order) q m)
       ∙ ap₂ (λ (x y : ℕ). eqb (asn p) (asn q) && ltb x y) (table-at metric′ 0 (length order) p l) (table-at metric′ 0 (length order) q m)
     where
       asn : ℕ → ℕ
@@ -459,18 +454,16 @@ module _ {routers : ℕ} {t : Columns} {order ends asns group med : List ℕ} (a
       metric′ : ℕ → ℕ
       metric′ k = column (t .med) (column order k)
 
-      stored : List ℕ
-      stored = table (length order) metric′
-
-  rest-here : (late : Bool) → table (length ends) (standsAt order ends (settledBy late group med ends))
-      ≡ table routers (atPlace N (repeat (contest N) (length (contending N)) (cond late (top (contest N)) (bottom (contest N)))))
+  rest-here : (late : Bool) → restIn late routers (t .router) (t .asn) (t .med) order
+      ≡ table routers (atPlace M (repeat (contest M) (length (contending M)) (cond late (top (contest M)) (bottom (contest M)))))
   rest-here late =
-      ap₂ (λ (step : List ℕ → List ℕ) (n : ℕ). table (length ends) (standsAt order ends (times step n (table (length ends) (startBy late ends)))))
-      (fun-ext (round-places order ends whole-here (beatsBy (column group) (column med)) (beats N) agree-here)) group-here
-      ∙ rest-is N known order ends same-here ordered-here (a .ends-are) (beats N) (λ q m p n. refl) late
+      ap (λ (n : ℕ). table n (standsAt order ends (settledBy late group med ends))) (sym ends-here)
+      ∙ ap₂ (λ (step : List ℕ → List ℕ) (n : ℕ). table (length ends) (standsAt order ends (times step n (table (length ends) (startBy late ends)))))
+      (fun-ext (round-places order ends whole-here (beatsBy (column group) (column med)) (beats M) agree-here)) group-here
+      ∙ rest-is M sound order ends same-here ordered-here refl (beats M) (λ q m p n. refl) late
 
-  pub rest-early : table (length ends) (standsAt order ends (settledBy false group med ends)) ≡ table routers (atPlace (routesMesh routers t) (earliest (contest (routesMesh routers t))))
+  pub rest-early : restIn false routers (t .router) (t .asn) (t .med) order ≡ table routers (atPlace (routesMesh routers t) (earliest (contest (routesMesh routers t))))
   rest-early = rest-here false
 
-  pub rest-late : table (length ends) (standsAt order ends (settledBy true group med ends)) ≡ table routers (atPlace (routesMesh routers t) (latest (contest (routesMesh routers t))))
+  pub rest-late : restIn true routers (t .router) (t .asn) (t .med) order ≡ table routers (atPlace (routesMesh routers t) (latest (contest (routesMesh routers t))))
   rest-late = rest-here true

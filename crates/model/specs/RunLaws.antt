@@ -322,6 +322,6 @@ module _ (order ends : List ℕ) (whole : startOf ends (length ends) ≡ length 
 
       free-is : (q : ℕ) → q < length order → free q ≡ free′ (column order q)
       free-is q l = ap not (
-        some-agree (λ p. beat p q) (λ p. beat′ (column order p) (column order q)) seen (λ p m. agree p q (passed-within x (length ends) (omega arith) p m) l)
-        ∙ sym (some-map (column order) (λ p. beat′ p (column order q)) seen)
-        ∙ ap (some (λ p. beat′ p (column order q))) (sym (passed-own x (length ends) (omega arith) ∙ passed-map (column order) (ownPlaces ends) x (length ends))))
+          some-agree (λ p. beat p q) (λ p. beat′ (column order p) (column order q)) seen (λ p m. agree p q (passed-within x (length ends) (omega arith) p m) l)
+          ∙ sym (some-map (column order) (λ p. beat′ p (column order q)) seen)
+          ∙ ap (some (λ p. beat′ p (column order q))) (sym (passed-own x (length ends) (omega arith) ∙ passed-map (column order) (ownPlaces ends) x (length ends))))

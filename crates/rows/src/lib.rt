@@ -9,6 +9,7 @@ ghost use Rattle.model.specs.Decision.{none};
 ghost use Rattle.model.specs.Contest.{leastOr};
 ghost use Rattle.model.specs.Lent.{was, is, col, Inside, Front};
 ghost use Rattle.model.specs.Columns.{mostRows, pastKeys};
+ghost use Rattle.model.specs.Listing.{gathered};
 
 // The most routes of a prefix.
 pub const MOST_ROWS: usize = 256;
@@ -137,4 +138,14 @@ pub fn first(rows: &[u16]) -> u16
         return NONE;
     }
     rows[0]
+}
+
+// The keys of the listed rows, in the order of the list.
+pub fn gather(key: &[u32], rows: &[u16], out: &mut [u32])
+    requires { ⌜ Inside (length (now key)) (now rows) × (length (now out) ≡ length (now rows)) ⌝ }
+    ensures { λ _. ⌜ is out ≡ gathered (was key) (was rows) ⌝ }
+{
+    for i in 0..rows.len() {
+        out[i] = key_at(key, rows, i);
+    }
 }

@@ -25,13 +25,7 @@ fn reach(place: u32, end: u32) -> usize
 }
 
 // Lowers the number of each group to the least MED of the contenders that stand at or before the place that their router has.
-fn pass(
-    group: &[u32],
-    med: &[u32],
-    ends: &[u32],
-    state: &[u32],
-    low: &mut [u32],
-)
+fn pass(group: &[u32], med: &[u32], ends: &[u32], state: &[u32], low: &mut [u32])
     requires { ⌜ Ready (now group) (now med) (now ends) ⌝ }
     requires { ⌜ (length (now state) ≡ length (now ends)) × (length (now low) ≡ mostRows) ⌝ }
     ensures { λ _. ⌜ ((k : ℕ) → column (is low) k ≡ leastOr (col low k) (col med) (keep (λ q. eqb (col group q) k) (passedRows (ownPlaces (was ends)) (was state) (length (was ends))))) ⌝ }
@@ -46,13 +40,7 @@ fn pass(
 
 // Gives each router the place of its first contender with a MED no higher than the lowest of its group, or its end; whether any
 // router's place is another than before.
-fn advance(
-    group: &[u32],
-    med: &[u32],
-    low: &[u32],
-    ends: &[u32],
-    state: &mut [u32],
-) -> bool
+fn advance(group: &[u32], med: &[u32], low: &[u32], ends: &[u32], state: &mut [u32]) -> bool
     requires { ⌜ Ready (now group) (now med) (now ends) ⌝ }
     requires { ⌜ (length (now state) ≡ length (now ends)) × (length (now low) ≡ mostRows) ⌝ }
     ensures { λ moved. ⌜ (is state ≡ table (length (was ends)) (λ r. firstPlace (λ q. not (ltb (col low (col group q)) (col med q))) (ownPlaces (was ends) r))) × (moved ≡ false → is state ≡ was state) ⌝ }
@@ -121,13 +109,7 @@ fn start(late: bool, ends: &[u32], state: &mut [u32])
 }
 
 // Where rounds lead from the late or the early start: with the contest's lists of a prefix, its latest or earliest state of rest.
-pub fn settled(
-    late: bool,
-    group: &[u32],
-    med: &[u32],
-    ends: &[u32],
-    state: &mut [u32],
-)
+pub fn settled(late: bool, group: &[u32], med: &[u32], ends: &[u32], state: &mut [u32])
     requires { ⌜ Ready (now group) (now med) (now ends) ⌝ }
     requires { ⌜ length (now state) ≡ length (now ends) ⌝ }
     ensures { λ _. ⌜ is state ≡ settledBy late (was group) (was med) (was ends) ⌝ }

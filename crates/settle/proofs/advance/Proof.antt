@@ -75,8 +75,7 @@ first-spared-requires c κs =
     let ready = start .pre .0 in
     let from = turn .before .loop .from in
     let n = column (now (a .ends)) (turn .before .loop .r) in
-    let long = slice-long from n (now (a .group)) (room turn) in
-    (
+    let long = slice-long from n (now (a .group)) (room turn) in (
       omega (arith, long, room turn, ready .rows),
       slice-long from n (now (a .med)) (omega (arith, room turn, ready .med-long)) ∙ sym long,
       slice-within from n (length (now (a .low))) (now (a .group)) (room turn) (λ q l. omega (arith, ready .grouped q l, start .pre .1 .1)),

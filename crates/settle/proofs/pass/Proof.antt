@@ -63,8 +63,7 @@ lower-requires c κs =
     let a = start .args in
     let ready = start .pre .0 in
     let from = turn .before .loop .from in
-    let n = gone .reach .result in
-    (
+    let n = gone .reach .result in (
       slice-long from n (now (a .med)) (omega (arith, reached gone, ready .med-long)) ∙ sym (slice-long from n (now (a .group)) (reached gone)),
       slice-within from n (length (turn .before .loop .low)) (now (a .group)) (reached gone) (λ q l. omega (arith, ready .grouped q l, turn .before .loop .inv .long, start .pre .1 .1)),
     )
