@@ -1,10 +1,11 @@
--- Short names for what a slice that is lent to a function holds, for the `ensures` of contracts, and for rows kept as flags.
-use Prim.Native.Nat.{ℕ}
+-- Short names for what a slice that is lent to a function holds, for the `ensures` of contracts, and for rows kept as flags or as a list.
+use Prim.Native.Nat.{ℕ, _≤_, _<_}
+use mathlib.Core.Path.{_≡_}
 use mathlib.Core.Bool.{Bool, false}
 use mathlib.Core.List.{List}
 use denote.Triple.Both.{Both}
 use denote.Ref.{RefT}
-use lib.ListN.{length, getD}
+use lib.ListN.{length, getD, take}
 use Rattle.model.specs.Rows.{keep, span, column}
 
 -- what the slice holds at entry, and, of a `&mut`, at exit
@@ -24,3 +25,12 @@ on flags q = getD flags q false
 
 abbrev pub rowsOf : List Bool → List ℕ
 rowsOf flags = keep (on flags) (span 0 (length flags))
+
+-- every row of a list is a row of columns that are n long
+pub record Inside (n : ℕ) (rows : List ℕ) : Type 0 where
+  pub below : (i : ℕ) → i < length rows → column rows i < n
+
+-- the first n of a list are these rows
+pub record Front (n : ℕ) (list rows : List ℕ) : Type 0 where
+  pub few : n ≤ length list
+  pub are : take n list ≡ rows

@@ -20,6 +20,7 @@ pub mod Lent
 pub mod Columns
 pub mod Listing
 pub mod LoopLaws
+pub mod ListLaws
 pub mod ColumnLaws
 pub mod ListingLaws
 pub mod RoundLaws
