@@ -1,8 +1,8 @@
 -- `choice::available` meets its contract. The available rows before q are packed into the front, n of them. Assumes nothing.
 use Prim.Native.Nat.{_-_}
 use native.Mathlib.Omega.{arith}
-use mathlib.Core.Path.{_≡_, sym, ap, _∙_}
-use mathlib.Core.Bool.{Bool, _||_}
+use mathlib.Core.Path.{sym}
+use mathlib.Core.Bool.{_||_}
 use lib.ListN.{length, getD}
 use lib.Dec.{eqb}
 use denote.Ref.{now}
@@ -10,7 +10,7 @@ use borrow.Author.Needs.{needs}
 use Rattle.model.specs.Rows.{column, span}
 use Rattle.model.specs.Decision.{none}
 use Rattle.model.specs.RowLaws.{length-span}
-use Rattle.model.specs.ListLaws.{Pack, pack, pack-off, pack-on, pack-room, pack-end, span-at}
+use Rattle.model.specs.ListLaws.{Pack, pack, pack-off, pack-on, pack-end, span-at}
 use Rattle.choice.proofs.available.Statement.{statement}
 use Rattle.choice.proofs.available.Tie as tie
 

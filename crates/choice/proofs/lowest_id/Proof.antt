@@ -1,7 +1,6 @@
 -- `choice::lowest_id` meets its contract. The keys of the rows before place i are stored, and the rows with the least key are kept. Assumes nothing.
 use Prim.Native.Nat.{_-_}
 use native.Mathlib.Omega.{arith}
-use mathlib.Core.Path.{ap, _∙_}
 use mathlib.Core.Bool.{cond}
 use lib.ListN.{length}
 use lib.Dec.{eqb}
