@@ -11,13 +11,13 @@ use mathlib.Core.Bool.{Bool, true, false}
 use mathlib.Core.List.{List, [], _∷_, _++_, append-nil, map-id}
 use lib.Dec.{eqb}
 use lib.ListN.{length, getD, take, drop, set, length-set, length-append, length-take, length-drop, drop-of-length-le}
-use lib.Seq.{drop-cons, drop-drop, drop-set-lt, take-suc-set, take-append-le, take-all, take-length, length-take-le, append-snoc, getD-take, getD-drop, getD-set-same, getD-set-other}
+use lib.Seq.{drop-cons, drop-drop, drop-set-lt, take-suc-set, take-append-le, take-length, length-take-le, append-snoc, getD-take, getD-drop, getD-set-same, getD-set-other}
 use borrow.Author.Tests.{eqb-true, eqb-false}
 use Rattle.model.specs.Rows.{keep, some, span, greatest, keepLeast, column}
 use Rattle.model.specs.Contest.{leastOr}
 use Rattle.model.specs.Lent.{Inside, Front}
 use Rattle.model.specs.Listing.{firstPlace}
-use Rattle.model.specs.RowLaws.{by, In, here, there, nowhere, in-cases, keep-in, Agree, in-span, table-at, count-length, count-le, count-all}
+use Rattle.model.specs.RowLaws.{by, In, here, there, nowhere, in-cases, Agree, in-span, table-at, count-length, count-le, count-all}
 use Rattle.model.specs.LeastLaws.{Picks, leastOr-past, leastOr-lower, keepLeast-agree}
 use Rattle.model.specs.LoopLaws.{Stored, stored-end}
 
@@ -50,9 +50,6 @@ inside-part {rows} {others} h part = inside-of others (λ q m. inside-in rows h 
 
 pub inside-step : {n : ℕ} {good : ℕ → ℕ → Type 0} {step : List ℕ → List ℕ} → Picks good step → (rows : List ℕ) → Inside n rows → Inside n (step rows)
 inside-step p rows h = inside-part h (λ q m. p .from rows m)
-
-pub inside-keep : {n : ℕ} (test : ℕ → Bool) (rows : List ℕ) → Inside n rows → Inside n (keep test rows)
-inside-keep test rows h = inside-part h (λ q m. keep-in test rows m .0)
 
 pub inside-span : {rows : List ℕ} (n : ℕ) → rows ≡ span 0 n → Inside n rows
 inside-span n e = subst (Inside n) (sym e) (record { below = λ i l. omega (arith, in-span 0 n (in-at (span 0 n) i l)) })
@@ -125,13 +122,6 @@ front-append {n} {m} {list} {lent} f g =
 -- no step adds rows
 pub keep-short : (test : ℕ → Bool) (rows : List ℕ) → length (keep test rows) ≤ length rows
 keep-short test rows = omega (arith, count-length test rows, count-le test (λ q. true) rows (λ q m t. tt), count-all rows)
-
--- and so is what is made of all of it
-pub front-whole : (step : List ℕ → List ℕ) {n : ℕ} {list lent rows : List ℕ}
-    → Front n list rows → length lent ≡ length (take n list) → lent ≡ step (take n list) → Front n (lent ++ drop n list) (step rows)
-front-whole step {n} {list} {lent} f long e =
-    let size : length lent ≡ n = long ∙ sym (front-long f) in
-    front-next step f (record { few = omega arith; are = take-all n lent (omega arith) ∙ e })
 
 -- ---- loops
 

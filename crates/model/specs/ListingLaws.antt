@@ -3,7 +3,7 @@ use Prim.Native.Nat.{ℕ, zero, suc, _+_, _<_, _≤_, min}
 use native.Mathlib.Omega.{arith}
 use mathlib.Core.Path.{_≡_, refl, sym, ap, ap₂, subst, _∙_, fun-ext}
 use mathlib.Core.Logic.{_⊎_, inl, inr, ⊎-elim, ⊎-swap}
-use mathlib.Core.Bool.{Bool, true, false, cond, _&&_, _||_, not, and-assoc, and-self, false≢true, true≢false}
+use mathlib.Core.Bool.{Bool, true, false, cond, _&&_, _||_, not, false≢true}
 use mathlib.Core.List.{List, [], _∷_, _++_}
 use lib.Dec.{T, eqb, ltb, leb, eqb→eq, ltb→lt, lt→ltb}
 use lib.ListN.{length, getD, take, drop, length-append}
@@ -12,20 +12,20 @@ use borrow.Author.Tests.{eqb-true, eqb-false, eq-eqb, ne-eqb, lt-ltb, le-ltb, lt
 use Rattle.model.specs.NumberLaws.{le-or-lt}
 use Rattle.model.specs.Rows.{keep, some, count, span, table, column}
 use Rattle.model.specs.Decision.{Mesh, none, all, ownOf, metric, beats, beatsBy, unbeatenBy, preferred}
-use Rattle.model.specs.DecisionLaws.{in-all, not-past, owned, picks-preferred}
+use Rattle.model.specs.DecisionLaws.{not-past, owned}
 use Rattle.model.specs.Stability.{Sound, before, contenders, standing}
 use Rattle.model.specs.StabilityLaws.{before-irrefl, before-chains, row-alike}
 use Rattle.model.specs.Order.{insert}
 use Rattle.model.specs.OrderLaws.{count-insert, insert-in, Ordered, Comparable, insert-ordered, kept-comparable}
 use Rattle.model.specs.Contest.{leastOr, times, end, repeat, bottom, top, earliest, latest, beatsOwnBy, aheadBy, contending, placeOf, contest, atPlace}
-use Rattle.model.specs.EarlyLateLaws.{contenders-items, item-contender, place-standing}
+use Rattle.model.specs.EarlyLateLaws.{contenders-items, place-standing}
 use Rattle.model.specs.Lent.{Inside}
 use Rattle.model.specs.Columns.{Columns, lentMesh, routesMesh, Fits, mostRows}
 use Rattle.model.specs.Listing.{groupBy, orderBy, arrangedOn, arrangedBy, startOf, ownRows, unbeatenRuns, preferredIn, countsIn, contendersIn, gathered, groupsIn, restIn, roundBy, startBy, settledBy, standsAt, Ready}
-use Rattle.model.specs.RowLaws.{by, both, or-cases, or-left, or-right, and-left, and-right, and-both, eq→eqb, In, here, there, nowhere, keep-in, keep-keep, some-kept, count-kept, count-length, count-le, count-all}
-use Rattle.model.specs.RowLaws.{Agree, keep-agree, some-agree, Filtered, filtered, filtered-keep, filtered-self, within, in-span, length-span, table-at, table-length, table-same}
+use Rattle.model.specs.RowLaws.{by, or-cases, or-left, or-right, and-left, and-right, and-both, eq→eqb, In, here, there, nowhere, keep-in, keep-keep, keep-append, some-kept, count-kept, count-length, count-le, count-all}
+use Rattle.model.specs.RowLaws.{Agree, keep-agree, Filtered, filtered, filtered-keep, filtered-self, within, length-span, table-at, table-length, table-same}
 use Rattle.model.specs.ListLaws.{inside-part, inside-span, span-at}
-use Rattle.model.specs.RunLaws.{Same, some-same, in-same, length-same, keep-append, leastOr-same, Places, at-places, ordered-places, runsBelow, run-next, runs-split, runs-whole, Listed, round-listed, round-places}
+use Rattle.model.specs.RunLaws.{Same, some-same, in-same, length-same, leastOr-same, Places, at-places, ordered-places, runsBelow, run-next, runs-split, runs-whole, Listed, round-listed, round-places}
 
 -- ---- groups
 

@@ -1,19 +1,17 @@
 -- Laws of rounds: how a step is repeated until it changes nothing; and loops over routers, whose rows stand in one list, one router's
 -- after the other's.
 use Prim.Native.Nat.{ℕ, zero, suc, _+_, _-_, _≤_, _<_, min, zero-le}
-use native.Mathlib.Nat.{sub-zero, le-refl}
+use native.Mathlib.Nat.{sub-zero}
 use native.Mathlib.Numerals.{add-one}
 use native.Mathlib.Omega.{arith}
 use mathlib.Core.Path.{_≡_, refl, sym, ap, ap₂, _∙_}
-use mathlib.Core.Logic.{⊎-elim}
 use mathlib.Core.Bool.{Bool, cond, not}
-use mathlib.Core.List.{List, [], _∷_, _++_}
+use mathlib.Core.List.{List, _∷_, _++_}
 use lib.Dec.{eqb, ltb}
 use lib.ListN.{length, take, drop, length-take, length-drop}
 use lib.Seq.{getD-take, getD-drop, length-take-le}
-use Rattle.model.specs.NumberLaws.{le-or-lt}
 use Rattle.model.specs.Rows.{keep, some, span, table, column}
-use Rattle.model.specs.RowLaws.{by, In, here, there, Agree, keep-append, in-span, table-same}
+use Rattle.model.specs.RowLaws.{by, here, keep-append, in-span, table-same}
 use Rattle.model.specs.Decision.{beatsBy, unbeatenBy}
 use Rattle.model.specs.Contest.{times, leastOr}
 use Rattle.model.specs.ContestLaws.{times-stays}
@@ -22,6 +20,7 @@ use Rattle.model.specs.Columns.{mostRows, pastKeys}
 use Rattle.model.specs.Listing.{startOf, ownRows, unbeatenRuns, ownPlaces, passedRows, firstPlace, roundBy, Ready}
 use Rattle.model.specs.Lent.{Front}
 use Rattle.model.specs.ListLaws.{front-is, front-long, front-wider, front-append, keep-short}
+use Rattle.model.specs.RunLaws.{start-below, first-agree}
 use Rattle.model.specs.ListingLaws.{beaten-low}
 
 -- so many steps are done, and x is where they led
@@ -54,13 +53,6 @@ start-next : (ends : List ℕ) (r : ℕ) → startOf ends (suc r) ≡ startOf en
 unfolding startOf
 start-next ends r = refl
 
-start-le : (ends : List ℕ) (r n : ℕ) → r ≤ n → startOf ends r ≤ startOf ends n
-start-le ends r zero l = let e : r ≡ 0 = omega arith in rw e (le-refl (startOf ends 0))
-start-le ends r (suc n) l = ⊎-elim
-    (λ m. let e : r ≡ suc n = omega arith in rw e (le-refl (startOf ends (suc n))))
-    (λ m. omega (arith, start-le ends r n (omega arith), start-next ends n))
-    (le-or-lt (suc n) r)
-
 -- a loop over routers, at r: so many rows are of the routers before it, of n in all
 pub record Turn (n : ℕ) (ends : List ℕ) (r from : ℕ) : Type 0 where
   pub within : r ≤ length ends
@@ -77,7 +69,7 @@ module _ {n : ℕ} {ends : List ℕ} where
     turn-next l = record { within = omega arith; whole = t .whole; here = rw add-one (ap (λ (k : ℕ). k + column ends r) (t .here) ∙ sym (start-next ends r)) }
 
     pub turn-room : r < length ends → from + column ends r ≤ n
-    turn-room l = omega (arith, t .here, t .whole, start-next ends r, start-le ends (suc r) (length ends) l)
+    turn-room l = omega (arith, t .here, t .whole, start-below ends r (length ends) l)
 
     -- the slice of a list of rows that is the router's own
     pub turn-own : (order : List ℕ) → take (from + column ends r - from) (drop from order) ≡ ownRows order ends r
@@ -230,10 +222,6 @@ slice-first {r} {from} {ends} group med low t l =
 
 -- ---- the lowest number of each group tells the first place that nothing passed beats
 
-firstPlace-agree : (t u : ℕ → Bool) (rows : List ℕ) → Agree t u rows → firstPlace t rows ≡ firstPlace u rows
-firstPlace-agree t u [] h = refl
-firstPlace-agree t u (q ∷ rows) h = rw (h q (here refl), firstPlace-agree t u rows (λ z m. h z (there m)))
-
 pub round-low : {group med ends : List ℕ} → Ready group med ends → (state low : List ℕ)
     → ((q : ℕ) → column med q ≤ pastKeys)
     → ((k : ℕ) → k < mostRows → column low k ≡ leastOr pastKeys (column med) (keep (λ q. eqb (column group q) k) (passedRows (ownPlaces ends) state (length ends))))
@@ -241,12 +229,11 @@ pub round-low : {group med ends : List ℕ} → Ready group med ends → (state 
     ≡ roundBy (beatsBy (column group) (column med)) (ownPlaces ends) (length ends) state
 round-low {group} {med} {ends} ready state low high lows =
     table-same (λ r. firstPlace spared (ownPlaces ends r)) (λ r. firstPlace free (ownPlaces ends r)) (length ends)
-    (λ r l. firstPlace-agree spared free (ownPlaces ends r) (λ q m.
+    (λ r l. first-agree spared free (ownPlaces ends r) (λ q m.
     ap not (ap (λ (k : ℕ). ltb k (column med q)) (lows (column group q) (ready .grouped q (omega (
       arith,
       in-span (startOf ends r) (column ends r) m,
-      start-next ends r,
-      start-le ends (suc r) (length ends) l,
+      start-below ends r (length ends) l,
       ready .whole,
     ))))
     ∙ sym (beaten-low (column group) (column med) pastKeys q (high q) seen))))

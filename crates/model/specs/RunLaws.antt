@@ -10,7 +10,7 @@ use lib.ListN.{length, getD, take, drop}
 use lib.Seq.{drop-cons}
 use borrow.Author.Tests.{eqb-true, eqb-false, leb-true, leb-false, eq-eqb, ne-eqb, lt-ltb, le-leb, lt-leb}
 use Rattle.model.specs.Rows.{keep, some, count, span, column}
-use Rattle.model.specs.RowLaws.{by, In, here, there, nowhere, in-cases, empty-of, in-keep, keep-in, keep-keep, keep-all, some-kept, Agree, keep-agree, some-agree, count-all, count-length, in-span, table-same}
+use Rattle.model.specs.RowLaws.{by, In, here, there, nowhere, in-cases, empty-of, in-keep, keep-in, keep-keep, keep-all, keep-append, some-kept, Agree, keep-agree, some-agree, count-all, count-length, in-span, table-same}
 use Rattle.model.specs.Contest.{Contest, leastOr, end, passed, firstFree, refine}
 use Rattle.model.specs.LeastLaws.{leastOr-past, leastOr-le, le-leastOr}
 use Rattle.model.specs.OrderLaws.{Ordered, ordered-first, ordered-later}
@@ -115,10 +115,6 @@ module _ (key : ℕ → ℕ) where
     )
 
 -- ---- the runs of a list, key after key
-
-pub keep-append : (test : ℕ → Bool) (a b : List ℕ) → keep test (a ++ b) ≡ keep test a ++ keep test b
-keep-append test [] b = refl
-keep-append test (q ∷ a) b = by (test q) (λ e. rw (e, keep-append test a b)) (λ e. rw (e, keep-append test a b))
 
 -- the members with key 0, those with key 1, .. , each in their order
 abbrev pub runsBelow : (ℕ → ℕ) → List ℕ → ℕ → List ℕ
@@ -253,7 +249,7 @@ module _ (f : ℕ → ℕ) where
       ap₂ (λ (a b : List ℕ). a ++ b) (passed-map own x n) (take-map (suc (column x n)) (own n))
       ∙ sym (append-map (passedRows own x n) (take (suc (column x n)) (own n)))
 
-first-agree : (t u : ℕ → Bool) (rows : List ℕ) → Agree t u rows → firstPlace t rows ≡ firstPlace u rows
+pub first-agree : (t u : ℕ → Bool) (rows : List ℕ) → Agree t u rows → firstPlace t rows ≡ firstPlace u rows
 first-agree t u [] h = refl
 first-agree t u (q ∷ rows) h = ap₂ (λ (b : Bool) (n : ℕ). cond b 0 (suc n)) (h q (here refl)) (first-agree t u rows (λ z m. h z (there m)))
 
@@ -276,17 +272,17 @@ part-at rows from (suc n) l =
     ap (take (suc n)) (drop-cons rows from 0 (omega arith))
     ∙ ap (λ (xs : List ℕ). column rows from ∷ xs) (part-at rows (suc from) n (omega arith))
 
-module _ (order ends : List ℕ) (whole : startOf ends (length ends) ≡ length order) where
-  -- the rows of each router end before those of the next
-  start-below : (r n : ℕ) → r < n → startOf ends r + column ends r ≤ startOf ends n
-  unfolding startOf
-  start-below r zero l = absurd (omega arith)
-  start-below r (suc n) l = by (eqb r n)
-      (λ e. let k = eqb-true r n e in rw k (omega arith))
-      (λ e. let h = start-below r n (let k = eqb-false r n e in omega (arith, k)) in omega arith)
+-- the rows of each router end before those of the next
+pub start-below : (ends : List ℕ) (r n : ℕ) → r < n → startOf ends r + column ends r ≤ startOf ends n
+unfolding startOf
+start-below ends r zero l = absurd (omega arith)
+start-below ends r (suc n) l = by (eqb r n)
+    (λ e. let k = eqb-true r n e in rw k (omega arith))
+    (λ e. let h = start-below ends r n (let k = eqb-false r n e in omega (arith, k)) in omega arith)
 
+module _ (order ends : List ℕ) (whole : startOf ends (length ends) ≡ length order) where
   own-within : (r : ℕ) → r < length ends → startOf ends r + column ends r ≤ length order
-  own-within r l = omega (arith, start-below r (length ends) l, whole)
+  own-within r l = omega (arith, start-below ends r (length ends) l, whole)
 
   own-map : (r : ℕ) → r < length ends → ownRows order ends r ≡ map (column order) (ownPlaces ends r)
   own-map r l = part-at order (startOf ends r) (column ends r) (own-within r l)
