@@ -86,7 +86,7 @@ fn beats(asn: &[u32], med: &[u32], p: usize, q: usize) -> bool
 
 // 4. Routes for which no route still kept has the same neighbour AS and a lower MED: out as soon as one kept same-neighbour route
 // has a lower MED. It looks at the whole kept list, so its answer goes into another.
-fn unbeaten(asn: &[u32], med: &[u32], rows: &[u16], left: &mut [u16]) -> usize
+pub fn unbeaten(asn: &[u32], med: &[u32], rows: &[u16], left: &mut [u16]) -> usize
     requires { ⌜ Inside (length (now asn)) (now rows) × Inside (length (now med)) (now rows) × (length (now rows) ≤ length (now left)) ⌝ }
     ensures { λ n. ⌜ Front n (is left) (unbeatenBy (beatsBy (col asn) (col med)) (was rows) (was rows)) ⌝ }
 {

@@ -22,5 +22,7 @@ pub mod Listing
 pub mod LoopLaws
 pub mod ListLaws
 pub mod ColumnLaws
+pub mod RunLaws
 pub mod ListingLaws
 pub mod RoundLaws
+pub mod InsertLaws

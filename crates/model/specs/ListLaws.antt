@@ -1,22 +1,23 @@
 -- Laws of rows kept as a list: rows inside columns, the front of a list, and the loops along one. Such a loop goes from place 0 up,
 -- and its invariant speaks of the rows that are left, `drop i rows`. So a turn takes one row off the front, as the definitions of
 -- `Rows` do.
-use Prim.Native.Nat.{ℕ, zero, suc, _+_, _≤_, _<_, max, zero-le}
+use Prim.Native.Nat.{ℕ, zero, suc, _+_, _-_, _≤_, _<_, min, max, zero-le}
 use native.Mathlib.Nat.{le-refl, not-suc-le-zero}
 use native.Mathlib.Numerals.{add-one}
 use native.Mathlib.Omega.{arith}
-use mathlib.Core.Path.{_≡_, refl, sym, ap, subst, _∙_}
+use mathlib.Core.Path.{_≡_, refl, sym, ap, ap₂, subst, _∙_}
 use mathlib.Core.Logic.{_⊎_, inl, inr, ⊎-elim}
-use mathlib.Core.Bool.{Bool, true, false, _||_, or-true, or-false}
+use mathlib.Core.Bool.{Bool, true, false}
 use mathlib.Core.List.{List, [], _∷_, _++_, append-nil, map-id}
 use lib.Dec.{eqb}
-use lib.ListN.{length, getD, take, drop, set, replicate, length-set, length-append, length-replicate, getD-replicate, drop-of-length-le}
-use lib.Seq.{drop-cons, drop-drop, drop-set-lt, take-suc-set, take-append-le, take-length, length-take-le, append-snoc, getD-drop, getD-set-same, getD-set-other, ext-getD}
+use lib.ListN.{length, getD, take, drop, set, length-set, length-append, length-take, length-drop, drop-of-length-le}
+use lib.Seq.{drop-cons, drop-drop, drop-set-lt, take-suc-set, take-append-le, take-length, length-take-le, append-snoc, getD-take, getD-drop, getD-set-same, getD-set-other}
 use borrow.Author.Tests.{eqb-true, eqb-false}
-use Rattle.model.specs.Rows.{keep, some, span, table, greatest, keepLeast, column}
+use Rattle.model.specs.Rows.{keep, some, span, greatest, keepLeast, column}
 use Rattle.model.specs.Contest.{leastOr}
-use Rattle.model.specs.Lent.{on, rowsOf, Inside, Front}
-use Rattle.model.specs.RowLaws.{by, In, here, there, nowhere, in-cases, Agree, keep-agree, Filtered, filtered-self, in-span, table-length, table-at}
+use Rattle.model.specs.Lent.{Inside, Front}
+use Rattle.model.specs.Listing.{firstPlace}
+use Rattle.model.specs.RowLaws.{by, In, here, there, nowhere, in-cases, Agree, in-span, table-at, count-length, count-le, count-all}
 use Rattle.model.specs.LeastLaws.{Picks, leastOr-past, leastOr-lower, keepLeast-agree}
 use Rattle.model.specs.LoopLaws.{Stored, stored-end}
 
@@ -35,20 +36,36 @@ in-at [] i l = absurd (not-suc-le-zero l)
 in-at (p ∷ rows) zero l = here refl
 in-at (p ∷ rows) (suc i) l = there (in-at rows i (omega arith))
 
-inside-in : {n q : ℕ} (rows : List ℕ) → Inside n rows → In q rows → q < n
+pub inside-in : {n q : ℕ} (rows : List ℕ) → Inside n rows → In q rows → q < n
 inside-in [] h m = absurd (nowhere m)
 inside-in {n} {q} (p ∷ rows) h m =
     ⊎-elim (λ e. let b = h .below 0 (omega arith) in omega arith) (inside-in rows (record { below = λ i l. h .below (suc i) (omega arith) })) (in-cases m)
 
+pub inside-of : {n : ℕ} (rows : List ℕ) → ((q : ℕ) → In q rows → q < n) → Inside n rows
+inside-of rows h = record { below = λ i l. h (column rows i) (in-at rows i l) }
+
 -- members of rows that are inside are inside; so are those that a step keeps
 pub inside-part : {n : ℕ} {rows others : List ℕ} → Inside n rows → ((q : ℕ) → In q others → In q rows) → Inside n others
-inside-part {rows} {others} h part = record { below = λ i l. inside-in rows h (part (column others i) (in-at others i l)) }
+inside-part {rows} {others} h part = inside-of others (λ q m. inside-in rows h (part q m))
 
 pub inside-step : {n : ℕ} {good : ℕ → ℕ → Type 0} {step : List ℕ → List ℕ} → Picks good step → (rows : List ℕ) → Inside n rows → Inside n (step rows)
 inside-step p rows h = inside-part h (λ q m. p .from rows m)
 
 pub inside-span : {rows : List ℕ} (n : ℕ) → rows ≡ span 0 n → Inside n rows
 inside-span n e = subst (Inside n) (sym e) (record { below = λ i l. omega (arith, in-span 0 n (in-at (span 0 n) i l)) })
+
+-- so are those of a part of the list
+pub inside-take : {n : ℕ} {rows : List ℕ} (k : ℕ) → Inside n rows → Inside n (take k rows)
+inside-take {n} {rows} k h = record {
+  below = λ i l. let m : i < min k (length rows) = subst (λ (z : ℕ). i < z) (length-take k rows) l in
+      let b = h .below i (omega arith) in rw (getD-take k rows i 0 (omega arith)) b;
+}
+
+pub inside-drop : {n : ℕ} {rows : List ℕ} (k : ℕ) → Inside n rows → Inside n (drop k rows)
+inside-drop {n} {rows} k h = record {
+  below = λ i l. let m : i < length rows - k = subst (λ (z : ℕ). i < z) (length-drop k rows) l in
+      let b = h .below (k + i) (omega arith) in rw (getD-drop k rows i 0) b;
+}
 
 -- columns of one length
 pub inside-long : {m n : ℕ} {rows : List ℕ} → Inside m rows → n ≡ m → Inside n rows
@@ -83,11 +100,28 @@ front-next step {n} {m} {list} {lent} f g = record {
   are = take-append-le m lent (drop n list) (g .few) ∙ front-of step f g .are;
 }
 
--- a front of room that holds one thing
-pub front-blank : {A : Type 0} (a : A) (n most : ℕ) → n ≤ most → take n (replicate most a) ≡ replicate n a
-front-blank a zero most l = refl
-front-blank a (suc n) zero l = absurd (not-suc-le-zero l)
-front-blank a (suc n) (suc most) l = ap (λ (rest : List _). a ∷ rest) (front-blank a n most (omega arith))
+-- the front of a list is the front of a longer one
+pub front-wider : {n : ℕ} {list rows : List ℕ} (rest : List ℕ) → Front n list rows → Front n (list ++ rest) rows
+front-wider {n} {list} rest f = record { few = omega (arith, f .few, length-append list rest); are = take-append-le n list rest (f .few) ∙ f .are }
+
+-- a front, and behind it another
+take-plus : (xs ys : List ℕ) (n : ℕ) → take (length xs + n) (xs ++ ys) ≡ xs ++ take n ys
+take-plus [] ys n = let z : 0 + n ≡ n = omega arith in rw z
+take-plus (x ∷ xs) ys n =
+    let z : suc (length xs) + n ≡ suc (length xs + n) = omega arith in
+    rw z (ap (λ (rest : List ℕ). x ∷ rest) (take-plus xs ys n))
+
+pub front-append : {n m : ℕ} {list lent a b : List ℕ} → Front n list a → Front m lent b → Front (n + m) (take n list ++ lent) (a ++ b)
+front-append {n} {m} {list} {lent} f g =
+    let long = length-take-le n list (f .few) in
+    record {
+      few = omega (arith, long, g .few, length-append (take n list) lent);
+      are = ap (λ (k : ℕ). take (k + m) (take n list ++ lent)) (sym long) ∙ take-plus (take n list) lent m ∙ ap₂ (λ (x y : List ℕ). x ++ y) (f .are) (g .are);
+    }
+
+-- no step adds rows
+pub keep-short : (test : ℕ → Bool) (rows : List ℕ) → length (keep test rows) ≤ length rows
+keep-short test rows = omega (arith, count-length test rows, count-le test (λ q. true) rows (λ q m t. tt), count-all rows)
 
 -- ---- loops
 
@@ -149,6 +183,57 @@ module _ {past : ℕ} {key : ℕ → ℕ} {rows : List ℕ} where
 
       pub lower-on : k < low → Lower past key rows (i + 1) k
       lower-on h = record { at = along-next (s .at) l (λ rest. let m = leastOr-lower (key (column rows i)) low key rest (omega arith) in rw e m) }
+
+-- ---- a loop that lowers the number of each bucket to the least key of the rows in it, and has done so for those before place i
+pub record Lowers (bucket key : ℕ → ℕ) (rows low₀ : List ℕ) (i : ℕ) (low : List ℕ) : Type 0 where
+  pub long : length low ≡ length low₀
+  pub at : (k : ℕ) → Along (leastOr (column low₀ k) key (keep (λ q. eqb (bucket q) k) rows)) (λ rest. leastOr (column low k) key (keep (λ q. eqb (bucket q) k) rest)) rows i
+
+module _ {bucket key : ℕ → ℕ} {rows low₀ : List ℕ} where
+  pub lowers : Lowers bucket key rows low₀ 0 low₀
+  lowers = record { long = refl; at = λ k. along refl }
+
+  module _ {i : ℕ} {low : List ℕ} (s : Lowers bucket key rows low₀ i low) where
+    pub lowers-end : length rows ≤ i → (k : ℕ) → column low k ≡ leastOr (column low₀ k) key (keep (λ q. eqb (bucket q) k) rows)
+    lowers-end l k = sym (along-end (s .at k) l)
+
+    module _ {q : ℕ} (l : i < length rows) (e : q ≡ column rows i) where
+      pub lowers-off : column low (bucket q) ≤ key q → Lowers bucket key rows low₀ (i + 1) low
+      lowers-off h = record {
+        long = s .long;
+        at = λ k. along-next (s .at k) l (λ rest. rw (← e) (by (eqb (bucket q) k)
+            (λ same. rw same (omega (arith, ap (column low) (eqb-true (bucket q) k same), leastOr-past (column low k) key (keep (λ q. eqb (bucket q) k) rest))))
+            (λ other. rw other)));
+      }
+
+      pub lowers-on : {v : ℕ} → key q < column low (bucket q) → bucket q < length low → v ≡ key q → Lowers bucket key rows low₀ (i + 1) (set low (bucket q) v)
+      lowers-on {v} h m d = record {
+        long = length-set low (bucket q) v ∙ s .long;
+        at = λ k. along-next (s .at k) l (λ rest. rw (← e) (by (eqb (bucket q) k)
+            (λ same. let b = eqb-true (bucket q) k same in
+            let c : column (set low (bucket q) v) k ≡ key q = (rw (← b) (getD-set-same low (bucket q) v 0 m)) ∙ d in
+            rw (same, c) (leastOr-lower (key q) (column low k) key (keep (λ q. eqb (bucket q) k) rest) (omega (arith, ap (column low) b))))
+            (λ other. rw (other, getD-set-other low (bucket q) k v 0 (λ f. eqb-false (bucket q) k other (sym f))))));
+      }
+
+-- ---- a search for the place of the first row that passes: no row before place i does
+pub record Leads (test : ℕ → Bool) (rows : List ℕ) (i : ℕ) : Type 0 where
+  pub at : Along (firstPlace test rows) (λ rest. i + firstPlace test rest) rows i
+
+module _ {test : ℕ → Bool} {rows : List ℕ} where
+  pub leads : Leads test rows 0
+  leads = record { at = along (omega arith) }
+
+  module _ {i : ℕ} (s : Leads test rows i) where
+    pub leads-end : length rows ≤ i → length rows ≡ firstPlace test rows
+    leads-end l = omega (arith, along-end (s .at) l, s .at .within)
+
+    module _ {b : Bool} (l : i < length rows) (e : b ≡ test (column rows i)) where
+      pub leads-off : b ≡ false → Leads test rows (i + 1)
+      leads-off h = record { at = along-next (s .at) l (λ rest. rw (sym e ∙ h) (omega arith)) }
+
+      pub leads-hit : b ≡ true → i ≡ firstPlace test rows
+      leads-hit h = sym (along-hit (s .at) l (λ rest. rw (sym e ∙ h) (omega arith)))
 
 -- ---- the greatest key
 pub record Higher (key : ℕ → ℕ) (rows : List ℕ) (i high : ℕ) : Type 0 where
@@ -262,48 +347,9 @@ module _ {f : ℕ → ℕ} {rows key₀ : List ℕ} where
     pub keyed-least : {n : ℕ} {list : List ℕ} → length rows ≤ i → Front n list (keepLeast (column key) rows) → Front n list (keepLeast f rows)
     keyed-least l e = front-is e (keepLeast-agree (column key) f rows (keyed-all l))
 
--- ---- a loop that sets the flag of each row of a list
-pub record Marks (rows : List ℕ) (flags₀ : List Bool) (i : ℕ) (flags : List Bool) : Type 0 where
-  pub long : length flags ≡ length flags₀
-  pub at : (q : ℕ) → Along (on flags₀ q || some (eqb q) rows) (λ rest. on flags q || some (eqb q) rest) rows i
-
-module _ {rows : List ℕ} {flags₀ : List Bool} where
-  pub marks : Marks rows flags₀ 0 flags₀
-  marks = record { long = refl; at = λ q. along refl }
-
-  module _ {i : ℕ} {flags : List Bool} (s : Marks rows flags₀ i flags) where
-    pub marks-next : {p : ℕ} → i < length rows → p ≡ column rows i → p < length flags₀ → Marks rows flags₀ (i + 1) (set flags p true)
-    marks-next {p} l here-is h = record {
-      long = length-set flags p true ∙ s .long;
-      at = λ q. along-next (s .at q) l (λ rest. rw (← here-is) (by (eqb q p)
-          (λ same. let set-here : on (set flags p true) q ≡ true = rw (eqb-true q p same) (getD-set-same flags p true false (omega (arith, s .long))) in
-          rw (same, set-here, or-true (on flags q)))
-          (λ other. rw (other, getD-set-other flags p q true false (eqb-false q p other)))));
-    }
-
-    pub marks-end : length rows ≤ i → flags ≡ table (length flags₀) (λ q. on flags₀ q || some (eqb q) rows)
-    marks-end l =
-        let f : ℕ → Bool = λ q. on flags₀ q || some (eqb q) rows in
-        let e = table-length (length flags₀) f in
-        ext-getD false flags (table (length flags₀) f) (s .long ∙ sym e)
-        (λ q m. sym (along-end (s .at q) l ∙ or-false (on flags q)) ∙ sym (table-at f false (length flags₀) q (omega (arith, s .long))))
-
 -- ---- every row, listed
 pub span-at : (n i : ℕ) → i < n → column (span 0 n) i ≡ i
 span-at n i l = rw (← map-id (span 0 n)) (table-at (λ k. k) 0 n i l)
 
 pub all-listed : {n : ℕ} {xs₀ xs : List ℕ} {i : ℕ} → Stored 0 (λ k. k) n xs₀ i xs → n ≤ i → xs ≡ span 0 n
 all-listed {n} s l = stored-end s l ∙ map-id (span 0 n)
-
--- ---- rows that filters leave of all rows are the rows of their flags
-pub marked-rows : (n : ℕ) {rows : List ℕ} {flags₀ flags : List Bool} → Filtered rows (span 0 n) → flags₀ ≡ replicate n false
-    → flags ≡ table (length flags₀) (λ q. on flags₀ q || some (eqb q) rows) → rowsOf flags ≡ rows
-marked-rows n {rows} {flags₀} {flags} f e d =
-    let long : length flags₀ ≡ n = ap length e ∙ length-replicate n false in
-    let all : length flags ≡ n = ap length d ∙ table-length (length flags₀) (λ q. on flags₀ q || some (eqb q) rows) ∙ long in
-    rw all (keep-agree (on flags) (λ q. some (eqb q) rows) (span 0 n) (λ q m. at q (omega (arith, in-span 0 n m)) long)) ∙ sym (filtered-self f)
-  where
-    at : (q : ℕ) → q < n → length flags₀ ≡ n → on flags q ≡ some (eqb q) rows
-    at q l long =
-        ap (λ (xs : List Bool). on xs q) d ∙ table-at (λ q. on flags₀ q || some (eqb q) rows) false (length flags₀) q (omega arith)
-        ∙ ap (λ (b : Bool). b || some (eqb q) rows) (ap (λ (xs : List Bool). on xs q) e ∙ getD-replicate n q false false l)

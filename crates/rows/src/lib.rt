@@ -1,15 +1,15 @@
 // The rows of a prefix that are still kept, as a list of row numbers, and what every step does with them: find the least or the
-// greatest key of a listed row, and pack the rows with that key into the front of the list. And rows kept as a flag for each row.
+// greatest key of a listed row, and pack the rows with that key into the front of the list.
 ghost use mathlib.Core.Path.{_≡_};
-ghost use mathlib.Core.Bool.{false, _&&_, _||_};
 ghost use Prim.Native.Nat.{_≤_, _<_};
 ghost use lib.ListN.{length, getD, replicate};
-ghost use lib.Dec.{eqb, ltb};
-ghost use Rattle.model.specs.Rows.{keep, some, span, table, column, greatest, keepLeast};
+ghost use lib.Dec.{eqb};
+ghost use Rattle.model.specs.Rows.{keep, span, column, greatest, keepLeast};
 ghost use Rattle.model.specs.Decision.{none};
 ghost use Rattle.model.specs.Contest.{leastOr};
-ghost use Rattle.model.specs.Lent.{was, is, col, on, rowsOf, Inside, Front};
+ghost use Rattle.model.specs.Lent.{was, is, col, Inside, Front};
 ghost use Rattle.model.specs.Columns.{mostRows, pastKeys};
+ghost use Rattle.model.specs.Listing.{gathered};
 
 // The most routes of a prefix.
 pub const MOST_ROWS: usize = 256;
@@ -23,13 +23,6 @@ pub const NONE: u16 = 65535;
 // No key is above it.
 pub const PAST_KEYS: u32 = 4294967295;
 
-// A flag for each row, none of them set.
-pub fn unmarked() -> [bool; MOST_ROWS]
-    ensures { λ x. ⌜ x ≡ replicate mostRows false ⌝ }
-{
-    [false; MOST_ROWS]
-}
-
 // Room for a list of all rows, that lists none.
 pub fn unlisted() -> [u16; MOST_ROWS]
     ensures { λ x. ⌜ x ≡ replicate mostRows none ⌝ }
@@ -42,36 +35,6 @@ pub fn past() -> [u32; MOST_ROWS]
     ensures { λ x. ⌜ x ≡ replicate mostRows pastKeys ⌝ }
 {
     [PAST_KEYS; MOST_ROWS]
-}
-
-// Whether the kept row q has a key below `low`.
-pub fn lower(key: &[u32], kept: &[bool], q: usize, low: u32) -> bool
-    requires { ⌜ (q < length (now kept)) × (length (now key) ≡ length (now kept)) ⌝ }
-    ensures { λ r. ⌜ r ≡ (on (was kept) q && ltb (col key q) low) ⌝ }
-{
-    kept[q] & (key[q] < low)
-}
-
-// Whether the row q is kept and has the key `value`.
-pub fn equal(key: &[u32], kept: &[bool], q: usize, value: u32) -> bool
-    requires { ⌜ (q < length (now kept)) × (length (now key) ≡ length (now kept)) ⌝ }
-    ensures { λ r. ⌜ r ≡ (on (was kept) q && eqb (col key q) value) ⌝ }
-{
-    kept[q] & (key[q] == value)
-}
-
-// How many rows are kept.
-pub fn count(kept: &[bool]) -> usize
-    ensures { λ r. ⌜ r ≡ length (rowsOf (was kept)) ⌝ }
-{
-    let mut sum: usize = 0;
-    for q in 0..kept.len() {
-        if kept[q] {
-            sum += 1;
-            continue;
-        }
-    }
-    sum
 }
 
 // The row listed at place i.
@@ -177,13 +140,12 @@ pub fn first(rows: &[u16]) -> u16
     rows[0]
 }
 
-// Sets the flag of each listed row.
-pub fn mark(rows: &[u16], flags: &mut [bool])
-    requires { ⌜ Inside (length (now flags)) (now rows) ⌝ }
-    ensures { λ _. ⌜ is flags ≡ table (length (was flags)) (λ q. on (was flags) q || some (eqb q) (was rows)) ⌝ }
+// The keys of the listed rows, in the order of the list.
+pub fn gather(key: &[u32], rows: &[u16], out: &mut [u32])
+    requires { ⌜ Inside (length (now key)) (now rows) × (length (now out) ≡ length (now rows)) ⌝ }
+    ensures { λ _. ⌜ is out ≡ gathered (was key) (was rows) ⌝ }
 {
     for i in 0..rows.len() {
-        let q = at(rows, i);
-        flags[q] = true;
+        out[i] = key_at(key, rows, i);
     }
 }
