@@ -46,14 +46,7 @@ pub fn put_router(out: &mut [u8], at: usize, index: u32, id: u32)
 
 // The distance from one router to another, which stands in a cell of the table. It is read behind the bytes before it: its four bytes are
 // then stored as one.
-pub fn put_distance(
-    out: &mut [u8],
-    at: usize,
-    from: u32,
-    to: u32,
-    distances: &[u32],
-    cell: usize,
-)
+pub fn put_distance(out: &mut [u8], at: usize, from: u32, to: u32, distances: &[u32], cell: usize)
     requires { ⌜ (at + size distanceForm ≤ length (now out)) × (cell < length (now distances)) ⌝ }
     ensures { λ _. ⌜ is out ≡ sets (was out) at (written distanceForm (from ∷ to ∷ col distances cell ∷ [])) ⌝ }
 {
