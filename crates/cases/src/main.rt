@@ -29,10 +29,10 @@ enum Finding {
     Refused(Refusal, usize),
 }
 
-// No input of more bytes is read to its end: one byte more than the longest snapshot.
+// What is read of a file at most: one byte more than the longest snapshot, since so many decide the answer.
 const INPUT: usize = 53576;
 
-// No line has more bytes.
+// No line has more bytes, its name included.
 const LINE: usize = 128;
 
 // Whether counts and tables are written as these bytes.
