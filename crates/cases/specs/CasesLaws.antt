@@ -11,7 +11,7 @@ use lib.Seq.{sets}
 use Rattle.refusal.specs.declared.Refusal.{Refusal}
 use Rattle.refusal.specs.declared.Refusal.the-variants.{Room}
 use Rattle.refusal.specs.Numbers.{numberOf}
-use Rattle.model.specs.LoopLaws.{by}
+use Rattle.model.specs.RowLaws.{by}
 use Rattle.snapshot.specs.declared.Counts.{Counts}
 use Rattle.snapshot.specs.Limits.{mostRoutes}
 use Rattle.snapshot.specs.Ranges.{anyOf}
