@@ -1,13 +1,13 @@
 // Choosing among what is available: the eight steps of document 01, over lent columns, one function a step and in its order.
 ghost use mathlib.Core.Path.{_≡_};
-ghost use mathlib.Core.Bool.{cond, _&&_, _||_};
+ghost use mathlib.Core.Bool.{cond, _||_};
 ghost use Prim.Native.Nat.{ℕ, _+_, _*_, _≤_, _<_};
 ghost use lib.ListN.{length, getD};
 ghost use lib.Dec.{eqb};
 ghost use Rattle.model.specs.Rows.{keep, some, span, column, keepLeast, keepGreatest};
 ghost use Rattle.model.specs.Decision.{none, beatsBy, unbeatenBy};
-ghost use Rattle.model.specs.Lent.{was, is, col, on, rowsOf};
-ghost use Rattle.model.specs.Columns.{mostRouters, columns, choiceOf, distanceIn, Placed};
+ghost use Rattle.model.specs.Lent.{was, is, col, Inside, Front};
+ghost use Rattle.model.specs.Columns.{mostRouters, mostRows, columns, choiceOf, distanceIn, Placed};
 
 // The row that a router chooses, or none.
 pub struct Chosen {
@@ -25,88 +25,98 @@ fn offered(router: &[u32], held: &[u16], q: usize, r: u32) -> bool
 }
 
 // To a router are available: its own routes, and for each other router the route which that router holds, if it is that other
-// router's own.
-fn available(router: &[u32], held: &[u16], r: u32, kept: &mut [bool])
-    requires { ⌜ (length (now kept) ≡ length (now router)) × ((q : ℕ) → q < length (now router) → column (now router) q < length (now held)) ⌝ }
-    ensures { λ _. ⌜ rowsOf (is kept) ≡ keep (λ q. eqb (col router q) r || eqb (getD (was held) (col router q) none) q) (span 0 (length (was router))) ⌝ }
+// router's own. They are listed at the front of `rows`, so many.
+fn available(router: &[u32], held: &[u16], r: u32, rows: &mut [u16]) -> usize
+    requires { ⌜ (length (now router) ≤ mostRows) × (length (now rows) ≡ length (now router)) × ((q : ℕ) → q < length (now router) → column (now router) q < length (now held)) ⌝ }
+    ensures { λ n. ⌜ Front n (is rows) (keep (λ q. eqb (col router q) r || eqb (getD (was held) (col router q) none) q) (span 0 (length (was router)))) ⌝ }
 {
+    let mut n: usize = 0;
     for q in 0..router.len() {
-        kept[q] = offered(router, held, q, r);
+        if offered(router, held, q, r) {
+            rows[n] = q as u16;
+            n += 1;
+            continue;
+        }
     }
+    n
 }
 
 // 1. The highest local preference.
-fn highest_preference(preference: &[u32], kept: &mut [bool])
-    requires { ⌜ length (now preference) ≡ length (now kept) ⌝ }
-    ensures { λ _. ⌜ rowsOf (is kept) ≡ keepGreatest (col preference) (rowsOf (was kept)) ⌝ }
+fn highest_preference(preference: &[u32], rows: &mut [u16]) -> usize
+    requires { ⌜ Inside (length (now preference)) (now rows) ⌝ }
+    ensures { λ n. ⌜ Front n (is rows) (keepGreatest (col preference) (was rows)) ⌝ }
 {
-    let high = rows::greatest(preference, kept);
-    rows::keep_equal(preference, kept, high);
+    let high = rows::greatest(preference, rows);
+    rows::keep_equal(preference, rows, high)
 }
 
 // 2. The shortest AS path.
-fn shortest_path(path: &[u32], kept: &mut [bool])
-    requires { ⌜ length (now path) ≡ length (now kept) ⌝ }
-    ensures { λ _. ⌜ rowsOf (is kept) ≡ keepLeast (col path) (rowsOf (was kept)) ⌝ }
+fn shortest_path(path: &[u32], rows: &mut [u16]) -> usize
+    requires { ⌜ Inside (length (now path)) (now rows) ⌝ }
+    ensures { λ n. ⌜ Front n (is rows) (keepLeast (col path) (was rows)) ⌝ }
 {
-    rows::keep_least(path, kept);
+    rows::keep_least(path, rows)
 }
 
 // 3. The lowest origin (0 IGP, 1 EGP, 2 incomplete).
-fn lowest_origin(origin: &[u32], kept: &mut [bool])
-    requires { ⌜ length (now origin) ≡ length (now kept) ⌝ }
-    ensures { λ _. ⌜ rowsOf (is kept) ≡ keepLeast (col origin) (rowsOf (was kept)) ⌝ }
+fn lowest_origin(origin: &[u32], rows: &mut [u16]) -> usize
+    requires { ⌜ Inside (length (now origin)) (now rows) ⌝ }
+    ensures { λ n. ⌜ Front n (is rows) (keepLeast (col origin) (was rows)) ⌝ }
 {
-    rows::keep_least(origin, kept);
+    rows::keep_least(origin, rows)
 }
 
 // Steps 1 to 3.
-pub fn preferred(preference: &[u32], path: &[u32], origin: &[u32], kept: &mut [bool])
-    requires { ⌜ (length (now preference) ≡ length (now kept)) × (length (now path) ≡ length (now kept)) × (length (now origin) ≡ length (now kept)) ⌝ }
-    ensures { λ _. ⌜ rowsOf (is kept) ≡ keepLeast (col origin) (keepLeast (col path) (keepGreatest (col preference) (rowsOf (was kept)))) ⌝ }
+pub fn preferred(preference: &[u32], path: &[u32], origin: &[u32], rows: &mut [u16]) -> usize
+    requires { ⌜ Inside (length (now preference)) (now rows) × Inside (length (now path)) (now rows) × Inside (length (now origin)) (now rows) ⌝ }
+    ensures { λ n. ⌜ Front n (is rows) (keepLeast (col origin) (keepLeast (col path) (keepGreatest (col preference) (was rows)))) ⌝ }
 {
-    highest_preference(preference, kept);
-    shortest_path(path, kept);
-    lowest_origin(origin, kept);
+    let high = highest_preference(preference, rows);
+    let short = shortest_path(path, &mut rows[..high]);
+    lowest_origin(origin, &mut rows[..short])
 }
 
-// Whether the kept row p has the same neighbour AS as q and a lower MED.
-fn beats(asn: &[u32], med: &[u32], kept: &[bool], p: usize, q: usize) -> bool
-    requires { ⌜ (p < length (now kept)) × (q < length (now kept)) × (length (now asn) ≡ length (now kept)) × (length (now med) ≡ length (now kept)) ⌝ }
-    ensures { λ r. ⌜ r ≡ (on (was kept) p && beatsBy (col asn) (col med) p q) ⌝ }
+// Whether the row p has the same neighbour AS as q and a lower MED.
+fn beats(asn: &[u32], med: &[u32], p: usize, q: usize) -> bool
+    requires { ⌜ (p < length (now asn)) × (q < length (now asn)) × (p < length (now med)) × (q < length (now med)) ⌝ }
+    ensures { λ r. ⌜ r ≡ beatsBy (col asn) (col med) p q ⌝ }
 {
-    kept[p] & ((asn[p] == asn[q]) & (med[p] < med[q]))
+    (asn[p] == asn[q]) & (med[p] < med[q])
 }
 
 // 4. Routes for which no route still kept has the same neighbour AS and a lower MED: out as soon as one kept same-neighbour route
-// has a lower MED. It looks at the whole kept set, so its answer goes into other flags.
-fn unbeaten(asn: &[u32], med: &[u32], kept: &[bool], left: &mut [bool])
-    requires { ⌜ (length (now asn) ≡ length (now kept)) × (length (now med) ≡ length (now kept)) × (length (now left) ≡ length (now kept)) ⌝ }
-    ensures { λ _. ⌜ rowsOf (is left) ≡ unbeatenBy (beatsBy (col asn) (col med)) (rowsOf (was kept)) (rowsOf (was kept)) ⌝ }
+// has a lower MED. It looks at the whole kept list, so its answer goes into another.
+pub fn unbeaten(asn: &[u32], med: &[u32], rows: &[u16], left: &mut [u16]) -> usize
+    requires { ⌜ Inside (length (now asn)) (now rows) × Inside (length (now med)) (now rows) × (length (now rows) ≤ length (now left)) ⌝ }
+    ensures { λ n. ⌜ Front n (is left) (unbeatenBy (beatsBy (col asn) (col med)) (was rows) (was rows)) ⌝ }
 {
-    for q in 0..kept.len() {
-        if !kept[q] {
-            left[q] = false;
-            continue;
-        }
+    let mut n: usize = 0;
+    for i in 0..rows.len() {
+        let q = rows::at(rows, i);
         let mut stays = true;
-        'scan: for p in 0..kept.len() {
-            if beats(asn, med, kept, p, q) {
+        'scan: for k in 0..rows.len() {
+            let p = rows::at(rows, k);
+            if beats(asn, med, p, q) {
                 stays = false;
                 break 'scan;
             }
         }
-        left[q] = stays;
+        if stays {
+            left[n] = rows[i];
+            n += 1;
+            continue;
+        }
     }
+    n
 }
 
-// Whether any kept row is of the router r.
-fn any_own(router: &[u32], kept: &[bool], r: u32) -> bool
-    requires { ⌜ length (now router) ≡ length (now kept) ⌝ }
-    ensures { λ x. ⌜ x ≡ some (λ q. eqb (col router q) r) (rowsOf (was kept)) ⌝ }
+// Whether any listed row is of the router r.
+fn any_own(router: &[u32], rows: &[u16], r: u32) -> bool
+    requires { ⌜ Inside (length (now router)) (now rows) ⌝ }
+    ensures { λ x. ⌜ x ≡ some (λ q. eqb (col router q) r) (was rows) ⌝ }
 {
-    for q in 0..kept.len() {
-        if rows::equal(router, kept, q, r) {
+    for i in 0..rows.len() {
+        if rows::has_key(router, rows, i, r) {
             return true;
         }
     }
@@ -114,14 +124,14 @@ fn any_own(router: &[u32], kept: &[bool], r: u32) -> bool
 }
 
 // 5. The router's own routes, if any is kept.
-fn own_if_any(router: &[u32], r: u32, kept: &mut [bool])
-    requires { ⌜ length (now router) ≡ length (now kept) ⌝ }
-    ensures { λ _. ⌜ rowsOf (is kept) ≡ cond (some (λ q. eqb (col router q) r) (rowsOf (was kept))) (keep (λ q. eqb (col router q) r) (rowsOf (was kept))) (rowsOf (was kept)) ⌝ }
+fn own_if_any(router: &[u32], r: u32, rows: &mut [u16]) -> usize
+    requires { ⌜ Inside (length (now router)) (now rows) ⌝ }
+    ensures { λ n. ⌜ Front n (is rows) (cond (some (λ q. eqb (col router q) r) (was rows)) (keep (λ q. eqb (col router q) r) (was rows)) (was rows)) ⌝ }
 {
-    if any_own(router, kept, r) {
-        rows::keep_equal(router, kept, r);
-        return;
+    if any_own(router, rows, r) {
+        return rows::keep_equal(router, rows, r);
     }
+    rows.len()
 }
 
 // The first number where the test is met, the second otherwise.
@@ -142,14 +152,21 @@ fn far(router: &[u32], distances: &[u32], q: usize, r: u32) -> u32
 }
 
 // 6. The lowest interior distance to the router that owns the route (0 for one's own).
-fn lowest_distance(router: &[u32], distances: &[u32], r: u32, key: &mut [u32], kept: &mut [bool])
-    requires { ⌜ (length (now router) ≡ length (now kept)) × (length (now key) ≡ length (now kept)) × ((q : ℕ) → q < length (now kept) → column (now router) q < mostRouters) × (r < mostRouters) × (mostRouters * mostRouters ≤ length (now distances)) ⌝ }
-    ensures { λ _. ⌜ rowsOf (is kept) ≡ keepLeast (λ q. cond (eqb (col router q) r) 0 (distanceIn (was distances) r (col router q))) (rowsOf (was kept)) ⌝ }
+fn lowest_distance(
+    router: &[u32],
+    distances: &[u32],
+    r: u32,
+    key: &mut [u32],
+    rows: &mut [u16],
+) -> usize
+    requires { ⌜ Inside (length (now router)) (now rows) × (length (now key) ≡ length (now router)) × ((q : ℕ) → q < length (now router) → column (now router) q < mostRouters) × (r < mostRouters) × (mostRouters * mostRouters ≤ length (now distances)) ⌝ }
+    ensures { λ n. ⌜ Front n (is rows) (keepLeast (λ q. cond (eqb (col router q) r) 0 (distanceIn (was distances) r (col router q))) (was rows)) ⌝ }
 {
-    for q in 0..kept.len() {
+    for i in 0..rows.len() {
+        let q = rows::at(rows, i);
         key[q] = far(router, distances, q, r);
     }
-    rows::keep_least(key, kept);
+    rows::keep_least(key, rows)
 }
 
 // The neighbour's id for an own route, the owning router's id otherwise.
@@ -162,22 +179,30 @@ fn tie_id(router: &[u32], nid: &[u32], ids: &[u32], q: usize, r: u32) -> u32
 }
 
 // 7. The lowest id: the neighbour's id for an own route, the owning router's id otherwise.
-fn lowest_id(router: &[u32], nid: &[u32], ids: &[u32], r: u32, key: &mut [u32], kept: &mut [bool])
-    requires { ⌜ (length (now router) ≡ length (now kept)) × (length (now nid) ≡ length (now kept)) × (length (now key) ≡ length (now kept)) × ((q : ℕ) → q < length (now kept) → column (now router) q < length (now ids)) ⌝ }
-    ensures { λ _. ⌜ rowsOf (is kept) ≡ keepLeast (λ q. cond (eqb (col router q) r) (col nid q) (col ids (col router q))) (rowsOf (was kept)) ⌝ }
+fn lowest_id(
+    router: &[u32],
+    nid: &[u32],
+    ids: &[u32],
+    r: u32,
+    key: &mut [u32],
+    rows: &mut [u16],
+) -> usize
+    requires { ⌜ Inside (length (now router)) (now rows) × (length (now nid) ≡ length (now router)) × (length (now key) ≡ length (now router)) × ((q : ℕ) → q < length (now router) → column (now router) q < length (now ids)) ⌝ }
+    ensures { λ n. ⌜ Front n (is rows) (keepLeast (λ q. cond (eqb (col router q) r) (col nid q) (col ids (col router q))) (was rows)) ⌝ }
 {
-    for q in 0..kept.len() {
+    for i in 0..rows.len() {
+        let q = rows::at(rows, i);
         key[q] = tie_id(router, nid, ids, q, r);
     }
-    rows::keep_least(key, kept);
+    rows::keep_least(key, rows)
 }
 
 // 8. The lowest peer address.
-fn lowest_peer(peer: &[u32], kept: &mut [bool])
-    requires { ⌜ length (now peer) ≡ length (now kept) ⌝ }
-    ensures { λ _. ⌜ rowsOf (is kept) ≡ keepLeast (col peer) (rowsOf (was kept)) ⌝ }
+fn lowest_peer(peer: &[u32], rows: &mut [u16]) -> usize
+    requires { ⌜ Inside (length (now peer)) (now rows) ⌝ }
+    ensures { λ n. ⌜ Front n (is rows) (keepLeast (col peer) (was rows)) ⌝ }
 {
-    rows::keep_least(peer, kept);
+    rows::keep_least(peer, rows)
 }
 
 // Steps 6 to 8.
@@ -189,15 +214,15 @@ fn nearest(
     distances: &[u32],
     r: u32,
     key: &mut [u32],
-    kept: &mut [bool],
-)
-    requires { ⌜ (length (now router) ≡ length (now kept)) × (length (now nid) ≡ length (now kept)) × (length (now peer) ≡ length (now kept)) × (length (now key) ≡ length (now kept)) ⌝ }
-    requires { ⌜ (mostRouters * mostRouters ≤ length (now distances)) × (r < mostRouters) × ((q : ℕ) → q < length (now kept) → (column (now router) q < mostRouters) × (column (now router) q < length (now ids))) ⌝ }
-    ensures { λ _. ⌜ rowsOf (is kept) ≡ keepLeast (col peer) (keepLeast (λ q. cond (eqb (col router q) r) (col nid q) (col ids (col router q))) (keepLeast (λ q. cond (eqb (col router q) r) 0 (distanceIn (was distances) r (col router q))) (rowsOf (was kept)))) ⌝ }
+    rows: &mut [u16],
+) -> usize
+    requires { ⌜ Inside (length (now router)) (now rows) × (length (now nid) ≡ length (now router)) × (length (now peer) ≡ length (now router)) × (length (now key) ≡ length (now router)) ⌝ }
+    requires { ⌜ (mostRouters * mostRouters ≤ length (now distances)) × (r < mostRouters) × ((q : ℕ) → q < length (now router) → (column (now router) q < mostRouters) × (column (now router) q < length (now ids))) ⌝ }
+    ensures { λ n. ⌜ Front n (is rows) (keepLeast (col peer) (keepLeast (λ q. cond (eqb (col router q) r) (col nid q) (col ids (col router q))) (keepLeast (λ q. cond (eqb (col router q) r) 0 (distanceIn (was distances) r (col router q))) (was rows)))) ⌝ }
 {
-    lowest_distance(router, distances, r, key, kept);
-    lowest_id(router, nid, ids, r, key, kept);
-    lowest_peer(peer, kept);
+    let near = lowest_distance(router, distances, r, key, rows);
+    let low = lowest_id(router, nid, ids, r, key, &mut rows[..near]);
+    lowest_peer(peer, &mut rows[..low])
 }
 
 // What the eight steps give r of what is available to it where each router holds what `held` says, in the room that is lent.
@@ -215,20 +240,20 @@ fn choose_in(
     held: &[u16],
     r: u32,
     key: &mut [u32],
-    kept: &mut [bool],
-    left: &mut [bool],
+    rows: &mut [u16],
+    left: &mut [u16],
 ) -> Chosen
     requires { ⌜ Placed (length (now held)) (now ids) (now distances) (columns (now router) (now asn) (now preference) (now path) (now origin) (now med) (now nid) (now peer)) ⌝ }
-    requires { ⌜ (r < length (now held)) × (length (now key) ≡ length (now router)) × (length (now kept) ≡ length (now router)) × (length (now left) ≡ length (now router)) ⌝ }
+    requires { ⌜ (r < length (now held)) × (length (now key) ≡ length (now router)) × (length (now rows) ≡ length (now router)) × (length (now left) ≡ length (now router)) ⌝ }
     ensures { λ c. ⌜ (c .row ≡ choiceOf (length (was held)) (was ids) (was distances) (columns (was router) (was asn) (was preference) (was path) (was origin) (was med) (was nid) (was peer)) (was held) r) ⌝ }
 {
-    available(router, held, r, kept);
-    preferred(preference, path, origin, kept);
-    unbeaten(asn, med, kept, left);
-    own_if_any(router, r, left);
-    nearest(router, nid, peer, ids, distances, r, key, left);
+    let offers = available(router, held, r, rows);
+    let kept = preferred(preference, path, origin, &mut rows[..offers]);
+    let free = unbeaten(asn, med, &rows[..kept], left);
+    let own = own_if_any(router, r, &mut left[..free]);
+    let near = nearest(router, nid, peer, ids, distances, r, key, &mut left[..own]);
     Chosen {
-        row: rows::first(left),
+        row: rows::first(&left[..near]),
     }
 }
 
@@ -252,8 +277,8 @@ pub fn choose(
     ensures { λ c. ⌜ (c .row ≡ choiceOf (length (was held)) (was ids) (was distances) (columns (was router) (was asn) (was preference) (was path) (was origin) (was med) (was nid) (was peer)) (was held) r) ⌝ }
 {
     let mut key = rows::past();
-    let mut kept = rows::unmarked();
-    let mut left = rows::unmarked();
+    let mut kept = rows::unlisted();
+    let mut left = rows::unlisted();
     let rows = router.len();
     choose_in(
         router,

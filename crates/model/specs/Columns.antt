@@ -74,7 +74,7 @@ routesMesh routers t = lentMesh routers [] [] t
 abbrev pub choiceOf : ℕ → List ℕ → List ℕ → Columns → List ℕ → ℕ → ℕ
 choiceOf routers ids distances t held r = let M = lentMesh routers ids distances t in choice M r (available M held r)
 
--- columns of one length, within the limits, and every row of a known router
+-- columns of one length, within the limits, every row of a known router, and no two of one router with one peer address
 pub record Fits (routers : ℕ) (t : Columns) : Type 0 where
   pub few : routers ≤ mostRouters
   pub rows : length (t .router) ≤ mostRows
@@ -86,6 +86,7 @@ pub record Fits (routers : ℕ) (t : Columns) : Type 0 where
   pub nid : length (t .nid) ≡ length (t .router)
   pub peer : length (t .peer) ≡ length (t .router)
   pub owned : (q : ℕ) → q < length (t .router) → column (t .router) q < routers
+  pub apart : (p q : ℕ) → p < length (t .router) → q < length (t .router) → column (t .router) p ≡ column (t .router) q → column (t .peer) p ≡ column (t .peer) q → p ≡ q
 
 -- such columns with the ids and distances of the routers, and what a snapshot's prefix is known to be
 pub record Placed (routers : ℕ) (ids distances : List ℕ) (t : Columns) : Type 0 where

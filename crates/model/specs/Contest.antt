@@ -15,6 +15,11 @@ abbrev pub leastOr : ℕ → (ℕ → ℕ) → List ℕ → ℕ
 leastOr past key [] = past
 leastOr past key (q ∷ rows) = min (key q) (leastOr past key rows)
 
+-- a step, so many times
+abbrev pub times : (List ℕ → List ℕ) → ℕ → List ℕ → List ℕ
+times step zero x = x
+times step (suc n) x = times step n (step x)
+
 -- items, each with an owner and a place in the owner's order, some of which beat others
 pub record Contest : Type 0 where
   pub owners : ℕ
@@ -50,8 +55,7 @@ module _ (C : Contest) where
 
   -- so many rounds
   abbrev pub repeat : ℕ → List ℕ → List ℕ
-  repeat zero x = x
-  repeat (suc n) x = repeat n (refine x)
+  repeat = times refine
 
   -- every owner at its first place; every owner past its end
   abbrev pub bottom : List ℕ

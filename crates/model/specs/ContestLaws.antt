@@ -14,7 +14,12 @@ use Rattle.model.specs.NumberLaws.{le-or-lt}
 use Rattle.model.specs.RowLaws.{decide, and-both, and-left, and-right, eq→eqb, In, Some, in-keep, keep-in, some-in, in-some, table-length, table-at, tallies}
 use Rattle.model.specs.RowLaws.{_⊑_, table-⊑, total, total-mono, total-eq}
 use Rattle.model.specs.LeastLaws.{leastOr-past, leastOr-le, le-leastOr}
-use Rattle.model.specs.Contest.{Contest, end, passed, heldItems, firstFree, refine, calm, repeat, bottom, top, earliest, latest}
+use Rattle.model.specs.Contest.{times, Contest, end, passed, heldItems, firstFree, refine, calm, repeat, bottom, top, earliest, latest}
+
+-- what a step leaves as it is stays
+pub times-stays : (step : List ℕ → List ℕ) (n : ℕ) (x : List ℕ) → x ≡ step x → times step n x ≡ x
+times-stays step zero x e = refl
+times-stays step (suc n) x e = ap (times step n) (sym e) ∙ times-stays step n x e
 
 -- what the theorems ask of a contest
 pub record Fair (C : Contest) : Type 0 where
@@ -130,10 +135,6 @@ module _ (C : Contest) where
 
   -- ---- rounds of refine
 
-  pub stays : (n : ℕ) (x : List ℕ) → x ≡ refine C x → repeat C n x ≡ x
-  stays zero x e = refl
-  stays (suc n) x e = ap (repeat C n) (sym e) ∙ stays n x e
-
   -- rounds that keep P, and lower a measure while they change anything, come to rest
   module _ (P : List ℕ → Type 0) (measure : List ℕ → ℕ) (next : (x : List ℕ) → P x → P (refine C x))
       (less : (x : List ℕ) → P x → (x ≡ refine C x) ⊎ (measure (refine C x) < measure x)) where
@@ -141,7 +142,7 @@ module _ (C : Contest) where
     rests zero x p h = ⊎-elim (λ e. e) (λ l. absurd (omega arith)) (less x p)
     rests (suc n) x p h =
         ⊎-elim
-        (λ e. let s = stays (suc n) x e in s ∙ e ∙ ap (refine C) (sym s))
+        (λ e. let s = times-stays (refine C) (suc n) x e in s ∙ e ∙ ap (refine C) (sym s))
         (λ l. rests n (refine C x) (next x p) (omega arith))
         (less x p)
 

@@ -1,10 +1,10 @@
 -- Laws of the least and the greatest key of a list of rows, and of the steps that keep the rows which have it.
 use Prim.Native.Nat.{ℕ, _≤_, min, max}
 use native.Mathlib.Omega.{arith}
-use mathlib.Core.Path.{_≡_, refl, ap, ap₂}
+use mathlib.Core.Path.{_≡_, refl, ap, ap₂, _∙_}
 use mathlib.Core.Logic.{_⊎_, inl, inr}
 use mathlib.Core.Bool.{Bool}
-use mathlib.Core.List.{List, [], _∷_}
+use mathlib.Core.List.{List, [], _∷_, _++_}
 use lib.Dec.{T, eqb, leb, eqb→eq, leb→le, nleb→lt, not-T}
 use Rattle.model.specs.Rows.{keep, least, greatest, keepLeast, keepGreatest}
 use Rattle.model.specs.RowLaws.{decide, eq→eqb, In, Some, here, there, nowhere, in-cases, member-or-empty, in-keep, keep-in, Agree, keep-agree}
@@ -115,6 +115,15 @@ pub leastOr-lower : (a past : ℕ) (key : ℕ → ℕ) (rows : List ℕ) → a �
 leastOr-lower a past key [] l = omega arith
 leastOr-lower a past key (q ∷ rows) l = omega (arith, leastOr-lower a past key rows l)
 
+leastOr-min : (a past : ℕ) (key : ℕ → ℕ) (rows : List ℕ) → min a (leastOr past key rows) ≡ leastOr (min a past) key rows
+leastOr-min a past key [] = refl
+leastOr-min a past key (q ∷ rows) = omega (arith, leastOr-min a past key rows)
+
+-- the least key of two lists is that of the second, where none is above the least of the first
+pub leastOr-append : (past : ℕ) (key : ℕ → ℕ) (rows more : List ℕ) → leastOr past key (rows ++ more) ≡ leastOr (leastOr past key rows) key more
+leastOr-append past key [] more = refl
+leastOr-append past key (q ∷ rows) more = ap (min (key q)) (leastOr-append past key rows more) ∙ leastOr-min (key q) (leastOr past key rows) key more
+
 -- the least key as `Rows` has it, where no key is above `past`
 module _ (past : ℕ) (key : ℕ → ℕ) (bound : (q : ℕ) → key q ≤ past) where
   least-is : (q : ℕ) (rows : List ℕ) → least key (q ∷ rows) ≡ leastOr past key (q ∷ rows)
@@ -136,7 +145,3 @@ module _ (f g : ℕ → ℕ) where
   pub keepLeast-agree : (rows : List ℕ) → Agree f g rows → keepLeast f rows ≡ keepLeast g rows
   keepLeast-agree rows h =
       keep-agree (λ q. eqb (f q) (least f rows)) (λ q. eqb (g q) (least g rows)) rows (λ q m. ap₂ eqb (h q m) (least-agree rows h))
-
-  pub leastOr-agree : (past : ℕ) (rows : List ℕ) → Agree f g rows → leastOr past f rows ≡ leastOr past g rows
-  leastOr-agree past [] h = refl
-  leastOr-agree past (q ∷ rows) h = ap₂ min (h q (here refl)) (leastOr-agree past rows (λ z m. h z (there m)))

@@ -1,11 +1,11 @@
--- Short names for what a slice that is lent to a function holds, for the `ensures` of contracts, and for rows kept as flags.
-use Prim.Native.Nat.{ℕ}
-use mathlib.Core.Bool.{Bool, false}
+-- Short names for what a slice that is lent to a function holds, for the `ensures` of contracts, and for rows kept as a list.
+use Prim.Native.Nat.{ℕ, _≤_, _<_}
+use mathlib.Core.Path.{_≡_}
 use mathlib.Core.List.{List}
 use denote.Triple.Both.{Both}
 use denote.Ref.{RefT}
-use lib.ListN.{length, getD}
-use Rattle.model.specs.Rows.{keep, span, column}
+use lib.ListN.{length, take}
+use Rattle.model.specs.Rows.{column}
 
 -- what the slice holds at entry, and, of a `&mut`, at exit
 abbrev pub was : {X E : Type 0} → Both (RefT X) E → X
@@ -18,9 +18,11 @@ is x = x .exit .now
 abbrev pub col : {E : Type 0} → Both (RefT (List ℕ)) E → ℕ → ℕ
 col x = column (x .entry .now)
 
--- whether a row's flag is set; and the rows whose flags are
-abbrev pub on : List Bool → ℕ → Bool
-on flags q = getD flags q false
+-- every row of a list is a row of columns that are n long
+pub record Inside (n : ℕ) (rows : List ℕ) : Type 0 where
+  pub below : (i : ℕ) → i < length rows → column rows i < n
 
-abbrev pub rowsOf : List Bool → List ℕ
-rowsOf flags = keep (on flags) (span 0 (length flags))
+-- the first n of a list are these rows
+pub record Front (n : ℕ) (list rows : List ℕ) : Type 0 where
+  pub few : n ≤ length list
+  pub are : take n list ≡ rows

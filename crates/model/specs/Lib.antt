@@ -20,6 +20,9 @@ pub mod Lent
 pub mod Columns
 pub mod Listing
 pub mod LoopLaws
+pub mod ListLaws
 pub mod ColumnLaws
+pub mod RunLaws
 pub mod ListingLaws
 pub mod RoundLaws
+pub mod InsertLaws

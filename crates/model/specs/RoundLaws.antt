@@ -1,68 +1,248 @@
--- Laws of rounds: how a round is made of flags, and how rounds are repeated.
-use Prim.Native.Nat.{ℕ, suc, _+_, _-_, _≤_, _<_, zero-le, min}
+-- Laws of rounds: how a step is repeated until it changes nothing; and loops over routers, whose rows stand in one list, one router's
+-- after the other's.
+use Prim.Native.Nat.{ℕ, zero, suc, _+_, _-_, _≤_, _<_, min, zero-le}
 use native.Mathlib.Nat.{sub-zero}
+use native.Mathlib.Numerals.{add-one}
 use native.Mathlib.Omega.{arith}
-use mathlib.Core.Path.{_≡_, sym, ap, _∙_, fun-ext}
-use mathlib.Core.Bool.{Bool, _&&_, not, and-comm}
-use mathlib.Core.List.{List}
-use lib.Dec.{eqb, leb}
-use lib.ListN.{length}
-use Rattle.model.specs.Rows.{keep, some, table, column}
+use mathlib.Core.Path.{_≡_, refl, sym, ap, ap₂, _∙_}
+use mathlib.Core.Bool.{Bool, cond, not}
+use mathlib.Core.List.{List, _∷_, _++_}
+use lib.Dec.{eqb, ltb}
+use lib.ListN.{length, take, drop, length-take, length-drop}
+use lib.Seq.{getD-take, getD-drop, length-take-le}
+use Rattle.model.specs.Rows.{keep, some, span, table, column}
+use Rattle.model.specs.RowLaws.{by, here, keep-append, in-span, table-same}
 use Rattle.model.specs.Decision.{beatsBy, unbeatenBy}
-use Rattle.model.specs.Contest.{Contest, leastOr, end, passed, firstFree, refine, repeat}
-use Rattle.model.specs.Lent.{rowsOf}
-use Rattle.model.specs.Listing.{listed, nextBy, Ready}
-use Rattle.model.specs.RowLaws.{keep-keep, table-same, table-at}
-use Rattle.model.specs.LeastLaws.{leastOr-lower}
-use Rattle.model.specs.ContestLaws.{stays}
+use Rattle.model.specs.Contest.{times, leastOr}
+use Rattle.model.specs.ContestLaws.{times-stays}
+use Rattle.model.specs.LeastLaws.{leastOr-append}
+use Rattle.model.specs.Columns.{mostRows, pastKeys}
+use Rattle.model.specs.Listing.{startOf, ownRows, unbeatenRuns, ownPlaces, passedRows, firstPlace, roundBy, Ready}
+use Rattle.model.specs.Lent.{Front}
+use Rattle.model.specs.ListLaws.{front-is, front-long, front-wider, front-append, keep-short}
+use Rattle.model.specs.RunLaws.{start-below, first-agree}
+use Rattle.model.specs.ListingLaws.{beaten-low}
 
--- the three parts of a round: what is passed, what that leaves free, and the first of it
-module _ {router place group med : List ℕ} {contends : List Bool} {ends : List ℕ} (ready : Ready router place group med contends ends) where
-  abbrev C : Contest
-  C = listed (length ends) router place group med contends
-
-  pub refined : (x : List ℕ) (seen free : List Bool) {x′ : List ℕ}
-      → rowsOf seen ≡ keep (λ q. leb (column place q) (column x (column router q))) (rowsOf contends)
-      → rowsOf free ≡ unbeatenBy (beatsBy (column group) (column med)) (rowsOf seen) (rowsOf contends)
-      → x′ ≡ table (length ends) (nextBy router place free ends)
-      → x′ ≡ refine C x
-  refined x seen free s f t = t ∙ table-same (nextBy router place free ends) (firstFree C (passed C x)) (length ends) λ r l.
-      let own : ℕ → Bool = λ q. eqb (column router q) r in
-      let clear : ℕ → Bool = λ q. not (some (λ p. beatsBy (column group) (column med) p q) (passed C x)) in
-      let ends-are : column ends r ≡ end C r = ap (λ (xs : List ℕ). column xs r) (ready .ended) ∙ table-at (end C) 0 (length ends) r l in
-      let frees-are : rowsOf free ≡ keep clear (rowsOf contends) = rw s at f in
-      let rows-are : keep own (rowsOf free) ≡ keep (λ q. own q && clear q) (rowsOf contends) =
-      ap (keep own) frees-are ∙ keep-keep own clear (rowsOf contends) ∙ ap (λ (t : ℕ → Bool). keep t (rowsOf contends)) (fun-ext (λ q. and-comm (clear q) (own q))) in
-      rw (ends-are, rows-are)
-
--- the first free place of each router, by a table of least places that starts past all ends
-pub advanced : (router place : List ℕ) (free : List Bool) (ends : List ℕ) (next : ℕ → ℕ) (past : ℕ) → ((r : ℕ) → column ends r ≤ past)
-    → ((r : ℕ) → r < length ends → next r ≡ leastOr past (column place) (keep (λ q. eqb (column router q) r) (rowsOf free)))
-    → table (length ends) (λ r. min (column ends r) (next r)) ≡ table (length ends) (nextBy router place free ends)
-advanced router place free ends next past high h =
-    table-same (λ r. min (column ends r) (next r)) (nextBy router place free ends) (length ends) λ r l.
-    ap (min (column ends r)) (h r l) ∙ leastOr-lower (column ends r) past (column place) (keep (λ q. eqb (column router q) r) (rowsOf free)) (high r)
-
--- so many rounds are done, and x is where they led
-pub record Rounds (C : Contest) (n : ℕ) (x₀ : List ℕ) (i : ℕ) (x : List ℕ) : Type 0 where
+-- so many steps are done, and x is where they led
+pub record Rounds (step : List ℕ → List ℕ) (n : ℕ) (x₀ : List ℕ) (i : ℕ) (x : List ℕ) : Type 0 where
   pub within : i ≤ n
-  pub left : repeat C n x₀ ≡ repeat C (n - i) x
+  pub left : times step n x₀ ≡ times step (n - i) x
 
-module _ {C : Contest} {n : ℕ} {x₀ : List ℕ} where
-  pub rounds : Rounds C n x₀ 0 x₀
+module _ {step : List ℕ → List ℕ} {n : ℕ} {x₀ : List ℕ} where
+  pub rounds : Rounds step n x₀ 0 x₀
   rounds = record { within = zero-le; left = rw sub-zero }
 
-  module _ {i : ℕ} {x : List ℕ} (s : Rounds C n x₀ i x) where
-    pub rounds-end : n ≤ i → x ≡ repeat C n x₀
+  module _ {i : ℕ} {x : List ℕ} (s : Rounds step n x₀ i x) where
+    pub rounds-end : n ≤ i → x ≡ times step n x₀
     rounds-end l =
         let e : n - i ≡ 0 = omega arith in
         sym (rw e at (s .left))
 
-    module _ {x′ : List ℕ} (l : i < n) (e : x′ ≡ refine C x) where
-      pub rounds-next : Rounds C n x₀ (i + 1) x′
+    module _ {x′ : List ℕ} (l : i < n) (e : x′ ≡ step x) where
+      pub rounds-next : Rounds step n x₀ (i + 1) x′
       rounds-next =
           let d : n - i ≡ suc (n - (i + 1)) = omega arith in
-          record { within = omega arith; left = (rw d at (s .left)) ∙ ap (repeat C (n - (i + 1))) (sym e) }
+          record { within = omega arith; left = (rw d at (s .left)) ∙ ap (times step (n - (i + 1))) (sym e) }
 
-      pub rounds-still : x′ ≡ x → x′ ≡ repeat C n x₀
-      rounds-still h = h ∙ sym (s .left ∙ stays C (n - i) x (sym h ∙ e))
+      pub rounds-still : x′ ≡ x → x′ ≡ times step n x₀
+      rounds-still h = h ∙ sym (s .left ∙ times-stays step (n - i) x (sym h ∙ e))
+
+-- ---- the rows of each router in one list
+
+start-next : (ends : List ℕ) (r : ℕ) → startOf ends (suc r) ≡ startOf ends r + column ends r
+unfolding startOf
+start-next ends r = refl
+
+-- a loop over routers, at r: so many rows are of the routers before it, of n in all
+pub record Turn (n : ℕ) (ends : List ℕ) (r from : ℕ) : Type 0 where
+  pub within : r ≤ length ends
+  pub whole : startOf ends (length ends) ≡ n
+  pub here : from ≡ startOf ends r
+
+module _ {n : ℕ} {ends : List ℕ} where
+  pub turn : startOf ends (length ends) ≡ n → Turn n ends 0 0
+  unfolding startOf
+  turn e = record { within = zero-le; whole = e; here = refl }
+
+  module _ {r from : ℕ} (t : Turn n ends r from) where
+    pub turn-next : r < length ends → Turn n ends (r + 1) (from + column ends r)
+    turn-next l = record { within = omega arith; whole = t .whole; here = rw add-one (ap (λ (k : ℕ). k + column ends r) (t .here) ∙ sym (start-next ends r)) }
+
+    pub turn-room : r < length ends → from + column ends r ≤ n
+    turn-room l = omega (arith, t .here, t .whole, start-below ends r (length ends) l)
+
+    -- the slice of a list of rows that is the router's own
+    pub turn-own : (order : List ℕ) → take (from + column ends r - from) (drop from order) ≡ ownRows order ends r
+    turn-own order =
+        let e : from + column ends r - from ≡ column ends r = omega arith in
+        rw (e, t .here)
+
+-- ---- a loop that packs the unbeaten rows of each router into the front of a list, and has done so for the routers before r
+pub record Packing (beat : ℕ → ℕ → Bool) (rows counts order₀ : List ℕ) (r from m : ℕ) (order : List ℕ) : Type 0 where
+  pub at : Turn (length rows) counts r from
+  pub few : m ≤ from
+  pub long : length order ≡ length order₀
+  pub front : Front m order (unbeatenRuns beat (ownRows rows counts) r)
+
+module _ {beat : ℕ → ℕ → Bool} {rows counts order₀ : List ℕ} where
+  pub packing : startOf counts (length counts) ≡ length rows → Packing beat rows counts order₀ 0 0 0 order₀
+  unfolding unbeatenRuns
+  packing e = record { at = turn e; few = zero-le; long = refl; front = record { few = zero-le; are = refl } }
+
+  module _ {r from m : ℕ} {order : List ℕ} (s : Packing beat rows counts order₀ r from m order) where
+    pub packing-next : {n : ℕ} {lent : List ℕ} (rest : List ℕ) → r < length counts → length (take m order ++ (lent ++ rest)) ≡ length order
+        → Front n lent (unbeatenBy beat (take (from + column counts r - from) (drop from rows)) (take (from + column counts r - from) (drop from rows)))
+        → Packing beat rows counts order₀ (r + 1) (from + column counts r) (m + n) (take m order ++ (lent ++ rest))
+    unfolding unbeatenRuns
+    packing-next {n} {lent} rest l e f =
+        let own = turn-own (s .at) rows in
+        let g : Front n lent (unbeatenBy beat (ownRows rows counts r) (ownRows rows counts r)) = front-is f (ap (λ (part : List ℕ). unbeatenBy beat part part) own) in
+        record {
+          at = turn-next (s .at) l;
+          few = omega (
+            arith,
+            s .few,
+            front-long g,
+            ap length (g .are),
+            keep-short (λ q. not (some (λ p. beat p q) (ownRows rows counts r))) (ownRows rows counts r),
+            length-take (column counts r) (drop (startOf counts r) rows),
+          );
+          long = e ∙ s .long;
+          front = rw add-one (front-append (s .front) (front-wider rest g));
+        }
+
+    pub packing-end : length counts ≤ r → Front m order (unbeatenRuns beat (ownRows rows counts) (length counts))
+    packing-end l = let e : r ≡ length counts = omega (arith, s .at .within) in rw e at (s .front)
+
+-- ---- part of a column
+
+-- n entries of a column, from one on
+abbrev pub slice : ℕ → ℕ → List ℕ → List ℕ
+slice from n xs = take (from + n - from) (drop from xs)
+
+pub slice-long : (from n : ℕ) (xs : List ℕ) → from + n ≤ length xs → length (slice from n xs) ≡ n
+slice-long from n xs l = let e : from + n - from ≡ n = omega arith in rw e (length-take-le n (drop from xs) (omega (arith, length-drop from xs)))
+
+slice-at : (from n : ℕ) (xs : List ℕ) (i : ℕ) → i < n → column (slice from n xs) (0 + i) ≡ column xs (from + i)
+slice-at from n xs i l =
+    let e : from + n - from ≡ n = omega arith in
+    let z : 0 + i ≡ i = omega arith in
+    rw (e, z) (getD-take n (drop from xs) i 0 l ∙ getD-drop from xs i 0)
+
+-- where every entry of a column is below a number, so is every entry of a part
+pub slice-within : (from n most : ℕ) (xs : List ℕ) → from + n ≤ length xs → ((q : ℕ) → q < length xs → column xs q < most) → (q : ℕ) → q < length (slice from n xs) → column (slice from n xs) q < most
+slice-within from n most xs l f q m =
+    let k : q < n = omega (arith, slice-long from n xs l) in
+    let z : 0 + q ≡ q = omega arith in
+    omega (arith, f (from + q) (omega arith), ap (column (slice from n xs)) z, slice-at from n xs q k)
+
+-- what is found of numbers from a on is what is found of those from b on, where keys and tests agree
+shift-least : (past : ℕ) (key key′ : ℕ → ℕ) (test test′ : ℕ → Bool) (a b n : ℕ) → ((i : ℕ) → i < n → key (a + i) ≡ key′ (b + i)) → ((i : ℕ) → i < n → test (a + i) ≡ test′ (b + i))
+    → leastOr past key (keep test (span a n)) ≡ leastOr past key′ (keep test′ (span b n))
+shift-least past key key′ test test′ a b zero f g = refl
+shift-least past key key′ test test′ a b (suc n) f g =
+    let ih = shift-least past key key′ test test′ (suc a) (suc b) n (λ i l. after key key′ i (f (suc i) (omega arith))) (λ i l. after test test′ i (g (suc i) (omega arith))) in
+    let k : key a ≡ key′ b = first key key′ (f 0 (omega arith)) in
+    let t : test a ≡ test′ b = first test test′ (g 0 (omega arith)) in
+    by (test′ b) (λ e. rw (t, e) (ap₂ min k ih)) (λ e. rw (t, e) ih)
+  where
+    after : {A : Type 0} (h h′ : ℕ → A) (i : ℕ) → h (a + suc i) ≡ h′ (b + suc i) → h (suc a + i) ≡ h′ (suc b + i)
+    after h h′ i e = ap h (omega arith) ∙ e ∙ ap h′ (omega arith)
+
+    first : {A : Type 0} (h h′ : ℕ → A) → h (a + 0) ≡ h′ (b + 0) → h a ≡ h′ b
+    first h h′ e = ap h (omega arith) ∙ e ∙ ap h′ (omega arith)
+
+shift-first : (test test′ : ℕ → Bool) (a b n : ℕ) → ((i : ℕ) → i < n → test (a + i) ≡ test′ (b + i)) → firstPlace test (span a n) ≡ firstPlace test′ (span b n)
+shift-first test test′ a b zero g = refl
+shift-first test test′ a b (suc n) g =
+    ap₂ (λ (t : Bool) (k : ℕ). cond t 0 (suc k)) (ap test (omega arith) ∙ g 0 (omega arith) ∙ ap test′ (omega arith))
+    (shift-first test test′ (suc a) (suc b) n (λ i l. ap test (omega arith) ∙ g (suc i) (omega arith) ∙ ap test′ (omega arith)))
+
+take-span : (k from n : ℕ) → take k (span from n) ≡ span from (min k n)
+take-span zero from n = let e : min 0 n ≡ 0 = omega arith in rw e
+take-span (suc k) from zero = let e : min (suc k) 0 ≡ 0 = omega arith in rw e
+take-span (suc k) from (suc n) =
+    let e : min (suc k) (suc n) ≡ suc (min k n) = omega arith in
+    rw e (ap (λ (rows : List ℕ). from ∷ rows) (take-span k (suc from) n))
+
+passed-next : (own : ℕ → List ℕ) (state : List ℕ) (r : ℕ) → passedRows own state (r + 1) ≡ passedRows own state r ++ take (suc (column state r)) (own r)
+unfolding passedRows
+passed-next own state r = rw add-one
+
+-- ---- a loop that lowers the number of each group by the rows that the routers have passed, and has done so for the routers before r
+pub record Passing (group key ends state low₀ : List ℕ) (r from : ℕ) (low : List ℕ) : Type 0 where
+  pub at : Turn (length group) ends r from
+  pub long : length low ≡ length low₀
+  pub done : (k : ℕ) → column low k ≡ leastOr (column low₀ k) (column key) (keep (λ q. eqb (column group q) k) (passedRows (ownPlaces ends) state r))
+
+module _ {group key ends state low₀ : List ℕ} where
+  pub passing : startOf ends (length ends) ≡ length group → Passing group key ends state low₀ 0 0 low₀
+  unfolding passedRows
+  passing e = record { at = turn e; long = refl; done = λ k. refl }
+
+  module _ {r from : ℕ} {low : List ℕ} (s : Passing group key ends state low₀ r from low) where
+    pub passing-end : length ends ≤ r → (k : ℕ) → column low k ≡ leastOr (column low₀ k) (column key) (keep (λ q. eqb (column group q) k) (passedRows (ownPlaces ends) state (length ends)))
+    passing-end l k = s .done k ∙ ap (λ (n : ℕ). leastOr (column low₀ k) (column key) (keep (λ q. eqb (column group q) k) (passedRows (ownPlaces ends) state n))) (omega (arith, s .at .within))
+
+    pub passing-next : {n : ℕ} {low′ : List ℕ} → r < length ends → n ≡ min (suc (column state r)) (column ends r) → length low′ ≡ length low
+        → ((k : ℕ) → column low′ k ≡ leastOr (column low k) (column (slice from n key)) (keep (λ q. eqb (column (slice from n group) q) k) (span 0 (length (slice from n group)))))
+        → Passing group key ends state low₀ (r + 1) (from + column ends r) low′
+    passing-next {n} m e l h = record {
+      at = turn-next (s .at) m;
+      long = l ∙ s .long;
+      done = λ k. let test : ℕ → Bool = λ q. eqb (column group q) k in
+          let seen = passedRows (ownPlaces ends) state r in
+          let part = take (suc (column state r)) (ownPlaces ends r) in
+          h k
+          ∙ ap (λ (z : ℕ). leastOr (column low k) (column (slice from n key)) (keep (λ q. eqb (column (slice from n group) q) k) (span 0 z))) (slice-long from n group (omega (arith, turn-room (s .at) m)))
+          ∙ shift-least (column low k) (column (slice from n key)) (column key) (λ q. eqb (column (slice from n group) q) k) test 0 from n
+          (λ i j. slice-at from n key i j) (λ i j. ap (λ (g : ℕ). eqb g k) (slice-at from n group i j))
+          ∙ ap (λ (rows : List ℕ). leastOr (column low k) (column key) (keep test rows)) part-is
+          ∙ ap (λ (past : ℕ). leastOr past (column key) (keep test part)) (s .done k)
+          ∙ sym (leastOr-append (column low₀ k) (column key) (keep test seen) (keep test part))
+          ∙ ap (leastOr (column low₀ k) (column key)) (sym (keep-append test seen part) ∙ ap (keep test) (sym (passed-next (ownPlaces ends) state r)));
+    }
+      where
+        part-is : span from n ≡ take (suc (column state r)) (ownPlaces ends r)
+        part-is = ap₂ span (s .at .here) e ∙ sym (take-span (suc (column state r)) (startOf ends r) (column ends r))
+
+-- the first place of a router's part that passes is the first of its places
+pub slice-first : {n r from : ℕ} {ends : List ℕ} (group med low : List ℕ) → Turn n ends r from → from + column ends r ≤ length group
+    → firstPlace (λ q. not (ltb (column low (column (slice from (column ends r) group) q)) (column (slice from (column ends r) med) q))) (span 0 (length (slice from (column ends r) group)))
+    ≡ firstPlace (λ q. not (ltb (column low (column group q)) (column med q))) (ownPlaces ends r)
+slice-first {r} {from} {ends} group med low t l =
+    let n = column ends r in
+    let g = slice from n group in
+    let d = slice from n med in
+    let spared : ℕ → Bool = λ q. not (ltb (column low (column group q)) (column med q)) in
+    ap (λ (z : ℕ). firstPlace (λ q. not (ltb (column low (column g q)) (column d q))) (span 0 z)) (slice-long from n group l)
+    ∙ shift-first (λ q. not (ltb (column low (column g q)) (column d q))) spared 0 from n
+    (λ i j. ap₂ (λ (x y : ℕ). not (ltb (column low x) y)) (slice-at from n group i j) (slice-at from n med i j))
+    ∙ ap (λ (s : ℕ). firstPlace spared (span s n)) (t .here)
+
+-- ---- the lowest number of each group tells the first place that nothing passed beats
+
+pub round-low : {group med ends : List ℕ} → Ready group med ends → (state low : List ℕ)
+    → ((q : ℕ) → column med q ≤ pastKeys)
+    → ((k : ℕ) → k < mostRows → column low k ≡ leastOr pastKeys (column med) (keep (λ q. eqb (column group q) k) (passedRows (ownPlaces ends) state (length ends))))
+    → table (length ends) (λ r. firstPlace (λ q. not (ltb (column low (column group q)) (column med q))) (ownPlaces ends r))
+    ≡ roundBy (beatsBy (column group) (column med)) (ownPlaces ends) (length ends) state
+round-low {group} {med} {ends} ready state low high lows =
+    table-same (λ r. firstPlace spared (ownPlaces ends r)) (λ r. firstPlace free (ownPlaces ends r)) (length ends)
+    (λ r l. first-agree spared free (ownPlaces ends r) (λ q m.
+    ap not (ap (λ (k : ℕ). ltb k (column med q)) (lows (column group q) (ready .grouped q (omega (
+      arith,
+      in-span (startOf ends r) (column ends r) m,
+      start-below ends r (length ends) l,
+      ready .whole,
+    ))))
+    ∙ sym (beaten-low (column group) (column med) pastKeys q (high q) seen))))
+  where
+    seen : List ℕ
+    seen = passedRows (ownPlaces ends) state (length ends)
+
+    spared : ℕ → Bool
+    spared q = not (ltb (column low (column group q)) (column med q))
+
+    free : ℕ → Bool
+    free q = not (some (λ p. beatsBy (column group) (column med) p q) seen)

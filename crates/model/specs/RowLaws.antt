@@ -5,7 +5,7 @@ use native.Mathlib.Omega.{arith}
 use mathlib.Core.Path.{_≡_, refl, sym, ap, ap₂, subst, _∙_}
 use mathlib.Core.Logic.{_⊎_, inl, inr, ⊎-elim}
 use mathlib.Core.Bool.{Bool, true, false, cond, _&&_, _||_, not, false≢true}
-use mathlib.Core.List.{List, [], _∷_, map}
+use mathlib.Core.List.{List, [], _∷_, _++_, map}
 use lib.Dec.{T, eqb, eqb→eq, eqb-refl, T-not, not-T}
 use lib.ListN.{length, getD, length-map, List·getD-eq-default}
 use lib.Seq.{ext-getD}
@@ -167,6 +167,12 @@ keep-keep t u (q ∷ rows) =
 pub keep-all : (rows : List ℕ) → keep (λ q. true) rows ≡ rows
 keep-all [] = refl
 keep-all (p ∷ rows) = ap (λ (l : List ℕ). p ∷ l) (keep-all rows)
+
+pub keep-append : (test : ℕ → Bool) (rows more : List ℕ) → keep test (rows ++ more) ≡ keep test rows ++ keep test more
+keep-append test [] more = refl
+keep-append test (q ∷ rows) more =
+    let ih = keep-append test rows more in
+    by (test q) (λ e. simp (e, ih)) (λ e. simp (e, ih))
 
 -- a test on what is kept is one test
 pub some-kept : (kept test : ℕ → Bool) (rows : List ℕ) → some test (keep kept rows) ≡ some (λ q. kept q && test q) rows

@@ -171,15 +171,14 @@ module _ (M : Mesh) where
       decided-contender m e = contender r (decided-preferred m) e (λ p n o. decided-free m (available-own held r (preferred-all n) o) n)
 
 module _ (M : Mesh) (sound : Sound M) where
-  -- of two different contenders one comes before the other
-  pub contender-alike : (r : ℕ) {p q : ℕ} → In p (contenders M r) → In q (contenders M r) → (p ≡ q → ⊥) → T (before M p q) ⊎ T (before M q p)
-  contender-alike r {p} {q} m n different = go (decide (before M p q)) (decide (before M q p))
+  -- of two different rows of one router one comes before the other
+  pub row-alike : {p q : ℕ} → In p (all M) → In q (all M) → M .router p ≡ M .router q → (p ≡ q → ⊥) → T (before M p q) ⊎ T (before M q p)
+  row-alike {p} {q} m n own different = go (decide (before M p q)) (decide (before M q p))
     where
       go : T (before M p q) ⊎ (T (before M p q) → ⊥) → T (before M q p) ⊎ (T (before M q p) → ⊥) → T (before M p q) ⊎ T (before M q p)
       go (inl t) u = inl t
       go (inr f) (inl u) = inr u
-      go (inr f) (inr g) = absurd (different (one-row M sound (preferred-all M (contender-preferred M r m)) (preferred-all M (contender-preferred M r n))
-          (contender-own M r m ∙ sym (contender-own M r n)) (omega (arith, not-peer, not-peer′))))
+      go (inr f) (inr g) = absurd (different (one-row M sound m n own (omega (arith, not-peer, not-peer′))))
         where
           not-id : ¬ (M .nid p < M .nid q)
           not-id h = f (before-id M p q h)
@@ -192,6 +191,9 @@ module _ (M : Mesh) (sound : Sound M) where
 
           not-peer′ : ¬ (M .peer q < M .peer p)
           not-peer′ h = g (before-peer M q p (omega (arith, not-id, not-id′)) h)
+
+  pub contender-alike : (r : ℕ) {p q : ℕ} → In p (contenders M r) → In q (contenders M r) → (p ≡ q → ⊥) → T (before M p q) ⊎ T (before M q p)
+  contender-alike r m n = row-alike (preferred-all M (contender-preferred M r m)) (preferred-all M (contender-preferred M r n)) (contender-own M r m ∙ sym (contender-own M r n))
 
   pub standing-one : (r : ℕ) {p q : ℕ} → In p (contenders M r) → In q (contenders M r) → standing M r p ≡ standing M r q → p ≡ q
   standing-one r {p} {q} m n e = elim (decide (eqb p q)) [

@@ -202,6 +202,7 @@ module _ {counts : Counts} {t : Tables} {s : Snapshot} (enough : Room t) (valid 
       nid = alike (λ r. r .nid);
       peer = alike (λ r. r .peer);
       owned = λ q l. omega (arith, n, sound valid p below .owned q (omega (arith, one (λ r. r .router))));
+      apart = lent-sound .peers;
     };
     ids-long = omega (arith, few, enough .ids);
     distances-long = enough .distances;

@@ -4,21 +4,14 @@ use mathlib.Core.Path.{_≡_}
 use mathlib.Core.List.{List, [], _∷_}
 use lib.ListN.{length}
 use lib.Seq.{sets}
-use Rattle.model.specs.Decision.{Route}
 use Rattle.snapshot.specs.Records.{Form}
 
 -- the two halves of a route record: kind, router, neighbour AS, local preference, path length; and the rest
 abbrev pub frontForm : Form
 frontForm = record { kind = 5; widths = 1 ∷ 2 ∷ 4 ∷ 2 ∷ [] }
 
-abbrev pub frontFields : Route → List ℕ
-frontFields r = r .router ∷ r .asn ∷ r .preference ∷ r .path ∷ []
-
 abbrev pub backWidths : List ℕ
 backWidths = 1 ∷ 1 ∷ 4 ∷ 4 ∷ 4 ∷ []
-
-abbrev pub backFields : Route → List ℕ
-backFields r = r .origin ∷ r .mark ∷ r .med ∷ r .nid ∷ r .peer ∷ []
 
 -- there is room for these bytes from a place on
 pub record Space (bytes out : List ℕ) (at : ℕ) : Type 0 where

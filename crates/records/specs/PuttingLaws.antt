@@ -33,6 +33,10 @@ fields-put (w ∷ ws) (v ∷ vs) d at k =
     ∙ ap (λ (i : ℕ). sets (sets d (at + k) (bytesOf w v)) i (spread ws vs)) (let e : at + (k + w) ≡ at + k + length (bytesOf w v) = omega arith in e)
     ∙ sym (sets-append d (at + k) (bytesOf w v) (spread ws vs))
 
+-- one field more
+pub then-put : (at w v : ℕ) {before mid after : List ℕ} → mid ≡ before → after ≡ sets mid at (bytesOf w v) → after ≡ sets before at (bytesOf w v)
+then-put at w v e f = f ∙ ap (λ (d : List ℕ). sets d at (bytesOf w v)) e
+
 -- a kind byte, and the fields behind it
 pub record-put : (f : Form) (vs d : List ℕ) (at : ℕ) → bytesOf 1 (f .kind) ≡ f .kind ∷ [] → putFields (f .widths) vs (sets d at (bytesOf 1 (f .kind))) at 1 ≡ sets d at (written f vs)
 record-put f vs d at e =

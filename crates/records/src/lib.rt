@@ -1,14 +1,16 @@
 // A record of each kind, put into a slice at a place: its kind byte, then its fields.
 ghost use mathlib.Core.Path.{_≡_};
 ghost use mathlib.Core.List.{[], _∷_};
-ghost use Prim.Native.Nat.{_+_, _≤_};
+ghost use Prim.Native.Nat.{_+_, _≤_, _<_};
 ghost use lib.ListN.{length};
 ghost use lib.Seq.{sets};
-ghost use Rattle.model.specs.Lent.{was, is};
+ghost use Rattle.model.specs.Lent.{was, is, col};
 ghost use Rattle.snapshot.specs.Records.{countForm, routerForm, distanceForm, prefixForm, routeForm, endForm, written, spread, size};
 ghost use Rattle.snapshot.specs.Format.{routeFields};
-ghost use Rattle.snapshot.specs.Plain.{routeIs};
-ghost use Rattle.records.specs.Putting.{frontForm, frontFields, backWidths, backFields};
+ghost use Rattle.snapshot.specs.Limits.{mostRoutes};
+ghost use Rattle.snapshot.specs.Tables.{columns};
+ghost use Rattle.tables.specs.Judging.{RoomRows, routeAt};
+ghost use Rattle.records.specs.Putting.{frontForm, backWidths};
 
 // The bytes of a record of each kind, its kind byte among them.
 pub const COUNT_SIZE: usize = 2;
@@ -42,15 +44,16 @@ pub fn put_router(out: &mut [u8], at: usize, index: u32, id: u32)
     wire::put32(out, at + 2, id);
 }
 
-// The distance from one router to another.
-pub fn put_distance(out: &mut [u8], at: usize, from: u32, to: u32, distance: u32)
-    requires { ⌜ at + size distanceForm ≤ length (now out) ⌝ }
-    ensures { λ _. ⌜ is out ≡ sets (was out) at (written distanceForm (from ∷ to ∷ distance ∷ [])) ⌝ }
+// The distance from one router to another, which stands in a cell of the table. It is read behind the bytes before it: its four bytes are
+// then stored as one.
+pub fn put_distance(out: &mut [u8], at: usize, from: u32, to: u32, distances: &[u32], cell: usize)
+    requires { ⌜ (at + size distanceForm ≤ length (now out)) × (cell < length (now distances)) ⌝ }
+    ensures { λ _. ⌜ is out ≡ sets (was out) at (written distanceForm (from ∷ to ∷ col distances cell ∷ [])) ⌝ }
 {
     wire::put8(out, at, 3);
     wire::put8(out, at + 1, from);
     wire::put8(out, at + 2, to);
-    wire::put32(out, at + 3, distance);
+    wire::put32(out, at + 3, distances[cell]);
 }
 
 // A prefix's address and length.
@@ -63,37 +66,68 @@ pub fn put_prefix(out: &mut [u8], at: usize, address: u32, bits: u32)
     wire::put8(out, at + 5, bits);
 }
 
-// The first ten bytes of a route: kind, router, neighbour AS, local preference, path length.
-fn put_route_front(out: &mut [u8], at: usize, r: snapshot::Route)
-    requires { ⌜ at + size routeForm ≤ length (now out) ⌝ }
-    ensures { λ _. ⌜ is out ≡ sets (was out) at (written frontForm (frontFields (routeIs r))) ⌝ }
+// The first ten bytes of the route in a row: kind, router, neighbour AS, local preference, path length. Each field is read behind the
+// bytes before it: its bytes are then stored as one.
+fn put_route_front(
+    out: &mut [u8],
+    at: usize,
+    router: &[u32],
+    asn: &[u32],
+    preference: &[u32],
+    path: &[u32],
+    row: usize,
+)
+    requires { ⌜ (at + size routeForm ≤ length (now out)) × (row < length (now router)) × (row < length (now asn)) × (row < length (now preference)) × (row < length (now path)) ⌝ }
+    ensures { λ _. ⌜ is out ≡ sets (was out) at (written frontForm (col router row ∷ col asn row ∷ col preference row ∷ col path row ∷ [])) ⌝ }
 {
     wire::put8(out, at, 5);
-    wire::put8(out, at + 1, r.router);
-    wire::put16(out, at + 2, r.asn);
-    wire::put32(out, at + 4, r.preference);
-    wire::put16(out, at + 8, r.path);
+    wire::put8(out, at + 1, router[row]);
+    wire::put16(out, at + 2, asn[row]);
+    wire::put32(out, at + 4, preference[row]);
+    wire::put16(out, at + 8, path[row]);
 }
 
 // The other fourteen: origin, MED mark, MED, neighbour id, peer address.
-fn put_route_back(out: &mut [u8], at: usize, r: snapshot::Route)
-    requires { ⌜ at + size routeForm ≤ length (now out) ⌝ }
-    ensures { λ _. ⌜ is out ≡ sets (was out) (at + size frontForm) (spread backWidths (backFields (routeIs r))) ⌝ }
+fn put_route_back(
+    out: &mut [u8],
+    at: usize,
+    origin: &[u32],
+    mark: &[u32],
+    med: &[u32],
+    nid: &[u32],
+    peer: &[u32],
+    row: usize,
+)
+    requires { ⌜ (at + size routeForm ≤ length (now out)) × (row < length (now origin)) × (row < length (now mark)) × (row < length (now med)) × (row < length (now nid)) × (row < length (now peer)) ⌝ }
+    ensures { λ _. ⌜ is out ≡ sets (was out) (at + size frontForm) (spread backWidths (col origin row ∷ col mark row ∷ col med row ∷ col nid row ∷ col peer row ∷ [])) ⌝ }
 {
-    wire::put8(out, at + 10, r.origin);
-    wire::put8(out, at + 11, r.mark);
-    wire::put32(out, at + 12, r.med);
-    wire::put32(out, at + 16, r.nid);
-    wire::put32(out, at + 20, r.peer);
+    wire::put8(out, at + 10, origin[row]);
+    wire::put8(out, at + 11, mark[row]);
+    wire::put32(out, at + 12, med[row]);
+    wire::put32(out, at + 16, nid[row]);
+    wire::put32(out, at + 20, peer[row]);
 }
 
-// A route. In two halves, since a proof about ten calls in a row is slow.
-pub fn put_route(out: &mut [u8], at: usize, r: snapshot::Route)
-    requires { ⌜ at + size routeForm ≤ length (now out) ⌝ }
-    ensures { λ _. ⌜ is out ≡ sets (was out) at (written routeForm (routeFields (routeIs r))) ⌝ }
+// The route in a row. In two halves, since a proof about ten calls in a row is slow.
+pub fn put_route(
+    out: &mut [u8],
+    at: usize,
+    router: &[u32],
+    asn: &[u32],
+    preference: &[u32],
+    path: &[u32],
+    origin: &[u32],
+    mark: &[u32],
+    med: &[u32],
+    nid: &[u32],
+    peer: &[u32],
+    row: usize,
+)
+    requires { ⌜ (at + size routeForm ≤ length (now out)) × (row < mostRoutes) × RoomRows (columns (now router) (now asn) (now preference) (now path) (now origin) (now mark) (now med) (now nid) (now peer)) ⌝ }
+    ensures { λ _. ⌜ is out ≡ sets (was out) at (written routeForm (routeFields (routeAt (columns (was router) (was asn) (was preference) (was path) (was origin) (was mark) (was med) (was nid) (was peer)) row))) ⌝ }
 {
-    put_route_front(out, at, r);
-    put_route_back(out, at, r);
+    put_route_front(out, at, router, asn, preference, path, row);
+    put_route_back(out, at, origin, mark, med, nid, peer, row);
 }
 
 // The end, with the number of records before it.

@@ -1,15 +1,15 @@
-// The rows of a prefix that are still kept, as a flag for each row, and what every step does with them: find the least or the
-// greatest key of a kept row, and keep the rows with that key.
+// The rows of a prefix that are still kept, as a list of row numbers, and what every step does with them: find the least or the
+// greatest key of a listed row, and pack the rows with that key into the front of the list.
 ghost use mathlib.Core.Path.{_≡_};
-ghost use mathlib.Core.Bool.{_&&_};
 ghost use Prim.Native.Nat.{_≤_, _<_};
 ghost use lib.ListN.{length, getD, replicate};
-ghost use lib.Dec.{eqb, ltb};
-ghost use Rattle.model.specs.Rows.{keep, span, greatest, keepLeast};
+ghost use lib.Dec.{eqb};
+ghost use Rattle.model.specs.Rows.{keep, span, column, greatest, keepLeast};
 ghost use Rattle.model.specs.Decision.{none};
 ghost use Rattle.model.specs.Contest.{leastOr};
-ghost use Rattle.model.specs.Lent.{was, is, col, on, rowsOf};
+ghost use Rattle.model.specs.Lent.{was, is, col, Inside, Front};
 ghost use Rattle.model.specs.Columns.{mostRows, pastKeys};
+ghost use Rattle.model.specs.Listing.{gathered};
 
 // The most routes of a prefix.
 pub const MOST_ROWS: usize = 256;
@@ -23,9 +23,11 @@ pub const NONE: u16 = 65535;
 // No key is above it.
 pub const PAST_KEYS: u32 = 4294967295;
 
-// A flag for each row, none of them set.
-pub fn unmarked() -> [bool; MOST_ROWS] {
-    [false; MOST_ROWS]
+// Room for a list of all rows, that lists none.
+pub fn unlisted() -> [u16; MOST_ROWS]
+    ensures { λ x. ⌜ x ≡ replicate mostRows none ⌝ }
+{
+    [NONE; MOST_ROWS]
 }
 
 // A number for each row, or bucket, that no key is above.
@@ -35,111 +37,115 @@ pub fn past() -> [u32; MOST_ROWS]
     [PAST_KEYS; MOST_ROWS]
 }
 
-// Whether the kept row q has a key below `low`.
-pub fn lower(key: &[u32], kept: &[bool], q: usize, low: u32) -> bool
-    requires { ⌜ (q < length (now kept)) × (length (now key) ≡ length (now kept)) ⌝ }
-    ensures { λ r. ⌜ r ≡ (on (was kept) q && ltb (col key q) low) ⌝ }
+// The row listed at place i.
+pub fn at(rows: &[u16], i: usize) -> usize
+    requires { ⌜ i < length (now rows) ⌝ }
+    ensures { λ q. ⌜ q ≡ col rows i ⌝ }
 {
-    kept[q] & (key[q] < low)
+    rows[i] as usize
 }
 
-// The least key of the kept rows; the greatest number where none is kept.
-fn least(key: &[u32], kept: &[bool]) -> u32
-    requires { ⌜ length (now key) ≡ length (now kept) ⌝ }
-    ensures { λ r. ⌜ r ≡ leastOr pastKeys (col key) (rowsOf (was kept)) ⌝ }
+// The key of the row listed at place i.
+fn key_at(key: &[u32], rows: &[u16], i: usize) -> u32
+    requires { ⌜ (i < length (now rows)) × (column (now rows) i < length (now key)) ⌝ }
+    ensures { λ k. ⌜ k ≡ col key (col rows i) ⌝ }
+{
+    let q = at(rows, i);
+    key[q]
+}
+
+// Whether the row listed at place i has the key `value`.
+pub fn has_key(key: &[u32], rows: &[u16], i: usize, value: u32) -> bool
+    requires { ⌜ (i < length (now rows)) × (column (now rows) i < length (now key)) ⌝ }
+    ensures { λ x. ⌜ x ≡ eqb (col key (col rows i)) value ⌝ }
+{
+    key_at(key, rows, i) == value
+}
+
+// The least key of the listed rows; the greatest number where none is listed.
+fn least(key: &[u32], rows: &[u16]) -> u32
+    requires { ⌜ Inside (length (now key)) (now rows) ⌝ }
+    ensures { λ r. ⌜ r ≡ leastOr pastKeys (col key) (was rows) ⌝ }
 {
     let mut low: u32 = PAST_KEYS;
-    for q in 0..kept.len() {
-        if lower(key, kept, q, low) {
-            low = key[q];
+    for i in 0..rows.len() {
+        let k = key_at(key, rows, i);
+        if k < low {
+            low = k;
             continue;
         }
     }
     low
 }
 
-// Whether the kept row q has a key above `high`.
-fn higher(key: &[u32], kept: &[bool], q: usize, high: u32) -> bool
-    requires { ⌜ (q < length (now kept)) × (length (now key) ≡ length (now kept)) ⌝ }
-    ensures { λ r. ⌜ r ≡ (on (was kept) q && ltb high (col key q)) ⌝ }
-{
-    kept[q] & (high < key[q])
-}
-
-// The greatest key of the kept rows; 0 where none is kept.
-pub fn greatest(key: &[u32], kept: &[bool]) -> u32
-    requires { ⌜ length (now key) ≡ length (now kept) ⌝ }
-    ensures { λ r. ⌜ r ≡ greatest (col key) (rowsOf (was kept)) ⌝ }
+// The greatest key of the listed rows; 0 where none is listed.
+pub fn greatest(key: &[u32], rows: &[u16]) -> u32
+    requires { ⌜ Inside (length (now key)) (now rows) ⌝ }
+    ensures { λ r. ⌜ r ≡ greatest (col key) (was rows) ⌝ }
 {
     let mut high: u32 = 0;
-    for q in 0..kept.len() {
-        if higher(key, kept, q, high) {
-            high = key[q];
+    for i in 0..rows.len() {
+        let k = key_at(key, rows, i);
+        if high < k {
+            high = k;
             continue;
         }
     }
     high
 }
 
-// Whether the row q is kept and has the key `value`.
-pub fn equal(key: &[u32], kept: &[bool], q: usize, value: u32) -> bool
-    requires { ⌜ (q < length (now kept)) × (length (now key) ≡ length (now kept)) ⌝ }
-    ensures { λ r. ⌜ r ≡ (on (was kept) q && eqb (col key q) value) ⌝ }
+// Of the listed rows, those whose key is `value`: packed into the front of the list, so many.
+pub fn keep_equal(key: &[u32], rows: &mut [u16], value: u32) -> usize
+    requires { ⌜ Inside (length (now key)) (now rows) ⌝ }
+    ensures { λ n. ⌜ Front n (is rows) (keep (λ q. eqb (col key q) value) (was rows)) ⌝ }
 {
-    kept[q] & (key[q] == value)
-}
-
-// Of the kept rows, those whose key is `value`.
-pub fn keep_equal(key: &[u32], kept: &mut [bool], value: u32)
-    requires { ⌜ length (now key) ≡ length (now kept) ⌝ }
-    ensures { λ _. ⌜ rowsOf (is kept) ≡ keep (λ q. eqb (col key q) value) (rowsOf (was kept)) ⌝ }
-{
-    for q in 0..kept.len() {
-        kept[q] = equal(key, kept, q, value);
-    }
-}
-
-// Of the kept rows, those whose key is the least.
-pub fn keep_least(key: &[u32], kept: &mut [bool])
-    requires { ⌜ length (now key) ≡ length (now kept) ⌝ }
-    ensures { λ _. ⌜ rowsOf (is kept) ≡ keepLeast (col key) (rowsOf (was kept)) ⌝ }
-{
-    let low = least(key, kept);
-    keep_equal(key, kept, low);
-}
-
-// Keeps every row.
-pub fn keep_all(kept: &mut [bool])
-    ensures { λ _. ⌜ rowsOf (is kept) ≡ span 0 (length (was kept)) ⌝ }
-{
-    for q in 0..kept.len() {
-        kept[q] = true;
-    }
-}
-
-// The first kept row, or none.
-pub fn first(kept: &[bool]) -> u16
-    requires { ⌜ length (now kept) ≤ mostRows ⌝ }
-    ensures { λ r. ⌜ r ≡ getD (rowsOf (was kept)) 0 none ⌝ }
-{
-    for q in 0..kept.len() {
-        if kept[q] {
-            return q as u16;
-        }
-    }
-    NONE
-}
-
-// How many rows are kept.
-pub fn count(kept: &[bool]) -> usize
-    ensures { λ r. ⌜ r ≡ length (rowsOf (was kept)) ⌝ }
-{
-    let mut sum: usize = 0;
-    for q in 0..kept.len() {
-        if kept[q] {
-            sum += 1;
+    let mut n: usize = 0;
+    for i in 0..rows.len() {
+        let q = rows[i];
+        if has_key(key, rows, i, value) {
+            rows[n] = q;
+            n += 1;
             continue;
         }
     }
-    sum
+    n
+}
+
+// Of the listed rows, those whose key is the least.
+pub fn keep_least(key: &[u32], rows: &mut [u16]) -> usize
+    requires { ⌜ Inside (length (now key)) (now rows) ⌝ }
+    ensures { λ n. ⌜ Front n (is rows) (keepLeast (col key) (was rows)) ⌝ }
+{
+    let low = least(key, rows);
+    keep_equal(key, rows, low)
+}
+
+// Lists every row.
+pub fn keep_all(rows: &mut [u16])
+    requires { ⌜ length (now rows) ≤ mostRows ⌝ }
+    ensures { λ _. ⌜ is rows ≡ span 0 (length (was rows)) ⌝ }
+{
+    for i in 0..rows.len() {
+        rows[i] = i as u16;
+    }
+}
+
+// The first listed row, or none.
+pub fn first(rows: &[u16]) -> u16
+    ensures { λ r. ⌜ r ≡ getD (was rows) 0 none ⌝ }
+{
+    if rows.len() == 0 {
+        return NONE;
+    }
+    rows[0]
+}
+
+// The keys of the listed rows, in the order of the list.
+pub fn gather(key: &[u32], rows: &[u16], out: &mut [u32])
+    requires { ⌜ Inside (length (now key)) (now rows) × (length (now out) ≡ length (now rows)) ⌝ }
+    ensures { λ _. ⌜ is out ≡ gathered (was key) (was rows) ⌝ }
+{
+    for i in 0..rows.len() {
+        out[i] = key_at(key, rows, i);
+    }
 }

@@ -1,142 +1,91 @@
 // The rows of its own at which each router stands when the contest of a prefix comes to rest, early and late, over lent columns.
 ghost use mathlib.Core.Path.{_≡_};
-ghost use mathlib.Core.Bool.{_&&_};
 ghost use Prim.Native.Nat.{ℕ, _≤_, _<_};
-ghost use lib.ListN.{length};
-ghost use lib.Dec.{eqb, ltb};
-ghost use Rattle.model.specs.Rows.{keep, table, column};
+ghost use mathlib.Core.Bool.{true, false};
+ghost use lib.ListN.{length, getD};
+ghost use Rattle.model.specs.Rows.{table, column};
 ghost use Rattle.model.specs.Decision.{none};
-ghost use Rattle.model.specs.Contest.{leastOr};
-ghost use Rattle.model.specs.Lent.{was, is, col, on, rowsOf};
+ghost use Rattle.model.specs.Lent.{was, is, Inside};
 ghost use Rattle.model.specs.Columns.{mostRows, columns, Fits};
-ghost use Rattle.model.specs.Listing.{standsAt, settledBy, Ready, RestRows};
+ghost use Rattle.model.specs.Listing.{startOf, countsIn, gathered, groupsIn, standsAt, settledBy, restIn, Ready, RestRows};
 
-// Whether q is a contender at the place that its router has, and before the row that its router is known to stand at.
-fn stands(
-    router: &[u32],
-    place: &[u32],
-    contends: &[bool],
-    state: &[u32],
-    own: &[u16],
-    q: usize,
-) -> bool
-    requires { ⌜ (q < length (now contends)) × (length (now router) ≡ length (now contends)) × (length (now place) ≡ length (now contends)) × (column (now router) q < length (now state)) × (column (now router) q < length (now own)) ⌝ }
-    ensures { λ x. ⌜ x ≡ ((on (was contends) q && eqb (col place q) (col state (col router q))) && ltb q (col own (col router q))) ⌝ }
+// The row listed at a place, or none.
+fn row_at(rows: &[u16], place: u32) -> u16
+    ensures { λ x. ⌜ x ≡ getD (was rows) place none ⌝ }
 {
-    let r = router[q] as usize;
-    let row = own[r] as usize;
-    (contends[q] & (place[q] == state[r])) & (q < row)
-}
-
-// No router stands at any row.
-fn clear(own: &mut [u16])
-    ensures { λ _. ⌜ is own ≡ table (length (was own)) (λ r. none) ⌝ }
-{
-    for r in 0..own.len() {
-        own[r] = rows::NONE;
+    let i = place as usize;
+    if i < rows.len() {
+        return rows[i];
     }
-}
-
-// Lowers the row of each router to the first of its contenders at the place that it has.
-fn stand(router: &[u32], place: &[u32], contends: &[bool], state: &[u32], own: &mut [u16])
-    requires { ⌜ (length (now contends) ≤ mostRows) × (length (now router) ≡ length (now contends)) × (length (now place) ≡ length (now contends)) × (length (now state) ≡ length (now own)) × ((q : ℕ) → q < length (now contends) → column (now router) q < length (now own)) ⌝ }
-    ensures { λ _. ⌜ ((r : ℕ) → column (is own) r ≡ leastOr (col own r) (λ q. q) (keep (λ q. eqb (col place q) (col state (col router q)) && eqb (col router q) r) (rowsOf (was contends)))) ⌝ }
-{
-    for q in 0..contends.len() {
-        let r = router[q] as usize;
-        if stands(router, place, contends, state, own, q) {
-            own[r] = q as u16;
-            continue;
-        }
-    }
+    rows::NONE
 }
 
 // For each router the contender that stands at the place which the state gives it, or none.
-fn rows_at(router: &[u32], place: &[u32], contends: &[bool], state: &[u32], own: &mut [u16])
-    requires { ⌜ (length (now contends) ≤ mostRows) × (length (now router) ≡ length (now contends)) × (length (now place) ≡ length (now contends)) × (length (now state) ≡ length (now own)) × ((q : ℕ) → q < length (now contends) → column (now router) q < length (now own)) ⌝ }
-    ensures { λ _. ⌜ is own ≡ table (length (was own)) (standsAt (was router) (was place) (was contends) (was state)) ⌝ }
+fn rows_at(order: &[u16], ends: &[u32], state: &[u32], own: &mut [u16])
+    requires { ⌜ (length (now order) ≤ mostRows) × (startOf (now ends) (length (now ends)) ≡ length (now order)) × (length (now state) ≡ length (now ends)) × (length (now own) ≡ length (now ends)) ⌝ }
+    ensures { λ _. ⌜ is own ≡ table (length (was ends)) (standsAt (was order) (was ends) (was state)) ⌝ }
 {
-    clear(own);
-    stand(router, place, contends, state, own);
+    let mut from: usize = 0;
+    for r in 0..ends.len() {
+        let to = from + ends[r] as usize;
+        own[r] = row_at(&order[from..to], state[r]);
+        from = to;
+    }
 }
 
 // The rows at which the routers stand where rounds lead from the late or the early start, in the room that is lent.
 fn rest_in(
     late: bool,
-    router: &[u32],
-    place: &[u32],
+    order: &[u16],
     group: &[u32],
     med: &[u32],
-    contends: &[bool],
     ends: &[u32],
     state: &mut [u32],
     own: &mut [u16],
 )
-    requires { ⌜ Ready (now router) (now place) (now group) (now med) (now contends) (now ends) ⌝ }
-    requires { ⌜ (length (now state) ≡ length (now ends)) × (length (now own) ≡ length (now ends)) ⌝ }
-    ensures { λ _. ⌜ is own ≡ table (length (was ends)) (standsAt (was router) (was place) (was contends) (settledBy late (was router) (was place) (was group) (was med) (was contends) (was ends))) ⌝ }
+    requires { ⌜ Ready (now group) (now med) (now ends) ⌝ }
+    requires { ⌜ (length (now order) ≡ length (now group)) × (length (now state) ≡ length (now ends)) × (length (now own) ≡ length (now ends)) ⌝ }
+    ensures { λ _. ⌜ is own ≡ table (length (was ends)) (standsAt (was order) (was ends) (settledBy late (was group) (was med) (was ends))) ⌝ }
 {
-    settle::settled(late, router, place, group, med, contends, ends, state);
-    rows_at(router, place, contends, state, own);
+    settle::settled(late, group, med, ends, state);
+    rows_at(order, ends, state, own);
 }
 
 // The rows at which the routers stand where rounds lead from the late or the early start.
-fn rest(
-    late: bool,
-    router: &[u32],
-    place: &[u32],
-    group: &[u32],
-    med: &[u32],
-    contends: &[bool],
-    ends: &[u32],
-    own: &mut [u16],
-)
-    requires { ⌜ Ready (now router) (now place) (now group) (now med) (now contends) (now ends) ⌝ }
-    requires { ⌜ length (now own) ≡ length (now ends) ⌝ }
-    ensures { λ _. ⌜ is own ≡ table (length (was ends)) (standsAt (was router) (was place) (was contends) (settledBy late (was router) (was place) (was group) (was med) (was contends) (was ends))) ⌝ }
+fn rest(late: bool, order: &[u16], group: &[u32], med: &[u32], ends: &[u32], own: &mut [u16])
+    requires { ⌜ Ready (now group) (now med) (now ends) ⌝ }
+    requires { ⌜ (length (now order) ≡ length (now group)) × (length (now own) ≡ length (now ends)) ⌝ }
+    ensures { λ _. ⌜ is own ≡ table (length (was ends)) (standsAt (was order) (was ends) (settledBy late (was group) (was med) (was ends))) ⌝ }
 {
     let mut state = settle::unplaced();
     let routers = ends.len();
-    rest_in(
-        late,
-        router,
-        place,
-        group,
-        med,
-        contends,
-        ends,
-        &mut state[..routers],
-        own,
-    );
+    rest_in(late, order, group, med, ends, &mut state[..routers], own);
 }
 
-// The early and the late rows at which the routers stand, in the room that is lent.
-fn own_rows_in(
+// The early and the late rows at which the routers stand, where the contenders are listed in order, in the room that is lent.
+fn rest_rows(
     router: &[u32],
     asn: &[u32],
-    preference: &[u32],
-    path: &[u32],
-    origin: &[u32],
     med: &[u32],
-    nid: &[u32],
-    peer: &[u32],
-    contends: &mut [bool],
-    place: &mut [u32],
+    order: &[u16],
+    asns: &mut [u32],
+    meds: &mut [u32],
     group: &mut [u32],
     ends: &mut [u32],
     early: &mut [u16],
     late: &mut [u16],
 )
-    requires { ⌜ Fits (length (now early)) (columns (now router) (now asn) (now preference) (now path) (now origin) (now med) (now nid) (now peer)) ⌝ }
-    requires { ⌜ (length (now contends) ≡ length (now router)) × (length (now place) ≡ length (now router)) × (length (now group) ≡ length (now router)) × (length (now ends) ≡ length (now early)) × (length (now late) ≡ length (now early)) ⌝ }
-    ensures { λ _. ⌜ RestRows (length (was early)) (columns (was router) (was asn) (was preference) (was path) (was origin) (was med) (was nid) (was peer)) (is early) (is late) ⌝ }
+    requires { ⌜ Inside (length (now router)) (now order) × (length (now asn) ≡ length (now router)) × (length (now med) ≡ length (now router)) × ((q : ℕ) → q < length (now router) → column (now router) q < length (now ends)) ⌝ }
+    requires { ⌜ (length (now asns) ≡ length (now order)) × (length (now meds) ≡ length (now order)) × (length (now group) ≡ length (now order)) × (length (now early) ≡ length (now ends)) × (length (now late) ≡ length (now ends)) ⌝ }
+    requires { ⌜ Ready (groupsIn (now asn) (now order)) (gathered (now med) (now order)) (countsIn (now router) (length (now ends)) (now order)) ⌝ }
+    ensures { λ _. ⌜ (is early ≡ restIn false (length (was ends)) (was router) (was asn) (was med) (was order)) × (is late ≡ restIn true (length (was ends)) (was router) (was asn) (was med) (was order)) ⌝ }
 {
-    contender::contenders(router, asn, preference, path, origin, med, contends);
-    contender::places(router, nid, peer, contends, place);
-    group::groups(asn, asn, group);
-    contender::place_ends(router, contends, ends);
-    rest(false, router, place, group, med, contends, ends, early);
-    rest(true, router, place, group, med, contends, ends, late);
+    contender::ends(router, order, ends);
+    rows::gather(asn, order, asns);
+    rows::gather(med, order, meds);
+    group::groups(asns, group);
+    rest(false, order, group, meds, ends, early);
+    rest(true, order, group, meds, ends, late);
 }
 
 // The rows of its own at which each router stands when the contest comes to rest: early and late.
@@ -156,13 +105,15 @@ pub fn own_rows(
     requires { ⌜ length (now late) ≡ length (now early) ⌝ }
     ensures { λ _. ⌜ RestRows (length (was early)) (columns (was router) (was asn) (was preference) (was path) (was origin) (was med) (was nid) (was peer)) (is early) (is late) ⌝ }
 {
-    let mut contends = rows::unmarked();
-    let mut place = rows::past();
+    let mut list = rows::unlisted();
+    let mut order = rows::unlisted();
+    let mut asns = rows::past();
+    let mut meds = rows::past();
     let mut group = rows::past();
     let mut ends = settle::unplaced();
     let rows = router.len();
     let routers = early.len();
-    own_rows_in(
+    let m = contender::contenders(
         router,
         asn,
         preference,
@@ -171,9 +122,18 @@ pub fn own_rows(
         med,
         nid,
         peer,
-        &mut contends[..rows],
-        &mut place[..rows],
-        &mut group[..rows],
+        &mut ends[..routers],
+        &mut list[..rows],
+        &mut order[..rows],
+    );
+    rest_rows(
+        router,
+        asn,
+        med,
+        &order[..m],
+        &mut asns[..m],
+        &mut meds[..m],
+        &mut group[..m],
         &mut ends[..routers],
         early,
         late,

@@ -3,7 +3,7 @@ use Prim.Native.Nat.{ℕ, zero, suc, _+_, _-_, _^_, _≤_, _<_, zero-le}
 use native.Mathlib.Omega.{arith}
 use native.Mathlib.Nat.{le-refl}
 use native.Mathlib.Numerals.{add-one}
-use mathlib.Core.Path.{_≡_, refl, sym, ap, _∙_, subst}
+use mathlib.Core.Path.{_≡_, refl, sym, ap, ap₂, _∙_, subst}
 use mathlib.Core.Bool.{Bool, true, false, not, _||_, true≢false, false≢true}
 use mathlib.Core.List.{List, []}
 use mathlib.Core.Logic.{_⊎_, inl, inr}
@@ -15,15 +15,16 @@ use Rattle.model.specs.Rows.{some, table, column}
 use Rattle.model.specs.Decision.{Route}
 use Rattle.model.specs.RowLaws.{table-length, by}
 use Rattle.snapshot.specs.declared.Counts.{Counts}
-use Rattle.snapshot.specs.Limits.{mostRouters, mostPrefixes, mostInPrefix, mostRoutes, lastAsn, longestPath, lastOrigin}
+use Rattle.snapshot.specs.Limits.{mostRouters, farthest, mostPrefixes, mostInPrefix, mostRoutes, lastAsn, longestPath, lastOrigin}
 use Rattle.snapshot.specs.Ranges.{none, anyOf, countTests, idTests, prefixTests, routeTests, rises, risesRoute}
 use Rattle.snapshot.specs.RangesLaws.{none-any, none-at}
 use Rattle.snapshot.specs.Records.{routeForm, Fits}
 use Rattle.snapshot.specs.Format.{GoodId, GoodRoute, Each, latest, routeFields}
 use Rattle.snapshot.specs.Tables.{Columns, Tables}
 use Rattle.snapshot.specs.ChecksLaws.{count-range}
-use Rattle.tables.specs.Judging.{RoomPrefixes, prefixTables, routeAt, start, routesAt, prefixAt, cell, cellTests, lateAt, CellGood, RouteGood, PrefixGood, Below, InRange, Totalled, Decides}
-use Rattle.tables.specs.ListsLaws.{latest-table, each-below, below-each}
+use Rattle.tables.specs.Judging.{RoomPrefixes, prefixTables, routeAt, start, routesAt, prefixAt, cell, lateAt, CellGood, RouteGood, PrefixGood, Below, InRange, Totalled, Decides}
+use Rattle.tables.specs.ListsLaws.{latest-table, each-below, below-each, none-table, some-more, table-none}
+use Rattle.tables.specs.PartsLaws.{cell-zero, cell-range, cell-good}
 
 -- ---- a loop that judges each number below n in turn
 
@@ -50,6 +51,27 @@ module _ {P : ℕ → Type 0} {n : ℕ} where
 
   pub sofar-not : {i : ℕ} → i < n → (P i → ⊥) → Decides (Below n P) false
   sofar-not {i} l f = decides-not (λ h. f (h i l))
+
+-- ---- a loop that looks at each number below n, whatever it finds
+
+-- whether a test held for one below i
+pub record Looked (test : ℕ → Bool) (f : ℕ → ℕ) (n i : ℕ) (found : Bool) : Type 0 where
+  pub within : i ≤ n
+  pub same : found ≡ some test (table i f)
+
+module _ {test : ℕ → Bool} {f : ℕ → ℕ} {n : ℕ} where
+  pub looked : Looked test f n 0 false
+  looked = record { within = zero-le; same = refl }
+
+  module _ {i : ℕ} {found : Bool} (s : Looked test f n i found) where
+    pub looked-next : {b : Bool} → i < n → b ≡ test (f i) → Looked test f n (i + 1) (found || b)
+    looked-next {b} l e = record {
+      within = omega arith;
+      same = ap₂ _||_ (s .same) e ∙ sym (some-more test f i) ∙ ap (λ (k : ℕ). some test (table k f)) (sym (add-one i));
+    }
+
+    pub looked-end : n ≤ i → found ≡ some test (table n f)
+    looked-end l = s .same ∙ ap (λ (k : ℕ). some test (table k f)) (let w = s .within in let z : i ≡ n = omega arith in z)
 
 -- ---- tests
 
@@ -117,12 +139,23 @@ module _ (before : List ℕ) (id : ℕ) {bad twin : Bool} (e : bad ≡ anyOf (id
 
 -- ---- distances
 
-module _ {ds : List ℕ} {from to : ℕ} {bad : Bool} (e : bad ≡ anyOf (cellTests from to (cell ds from to))) where
-  pub cell-good : bad ≡ false → CellGood ds from to
-  cell-good h = record { ranges = tests-good (cellTests from to (cell ds from to)) e h }
-
-  pub cell-bad : bad ≡ true → CellGood ds from to → ⊥
-  cell-bad h good = tests-bad (cellTests from to (cell ds from to)) e h (good .ranges)
+-- a router's own cell that is not 0, and cells that are too far, decide of the distances from it
+module _ {ds : List ℕ} {from n : ℕ} {own beyond : Bool} where
+  pub row-decides : from < n → own ≡ not (eqb (cell ds from from) 0) → beyond ≡ some (ltb farthest) (table n (cell ds from))
+      → Decides (Below n (CellGood ds from)) (not (own || beyond))
+  row-decides l e f = record {
+    yes = λ on to m.
+        let (mine, near) = or-false own beyond (not-true (own || beyond) on) in
+        let zero : cell ds from from ≡ 0 = eqb-true (cell ds from from) 0 (not-false (eqb (cell ds from from) 0) (sym e ∙ mine)) in
+        record {
+          ranges = cell-good from to (cell ds from to) (λ same. ap (cell ds from) (sym same) ∙ zero) (off-yes (table-none (ltb farthest) (cell ds from) n (sym f ∙ near) to m));
+        };
+    no = λ out good.
+        let zero : cell ds from from ≡ 0 = cell-zero from from (cell ds from from) (good from l .ranges) refl in
+        let mine : own ≡ false = e ∙ ap not (eq-eqb (cell ds from from) 0 zero) in
+        let near : beyond ≡ false = f ∙ none-table (ltb farthest) (cell ds from) n (λ to m. off (ltb farthest (cell ds from to)) (cell-range from to (cell ds from to) (good to m .ranges))) in
+        true≢false (sym (rw (mine, near)) ∙ out);
+  }
 
 -- ---- rows that rise
 

@@ -29,13 +29,13 @@ use Rattle.tables.specs.HeldLaws.{pair-two, no-pair, cells, cells-at, di
 pub and-zero : (b : Bool) (d : ℕ) → (b && not (eqb d 0)) ≡ false → b ≡ true → d ≡ 0
 and-zero b d off e = eqb-true d 0 (not-false (eqb d 0) (rw e at off))
 
-cell-zero : (from to d : ℕ) → T (none (cellTests from to d)) → from ≡ to → d ≡ 0
+pub cell-zero : (from to d : ℕ) → T (none (cellTests from to d)) → from ≡ to → d ≡ 0
 cell-zero from to d t e = and-zero (eqb from to) d (none-split (eqb from to && not (eqb d 0)) (distanceTests d) t .0) (eq-eqb from to e)
 
-cell-range : (from to d : ℕ) → T (none (cellTests from to d)) → T (none (distanceTests d))
+pub cell-range : (from to d : ℕ) → T (none (cellTests from to d)) → T (none (distanceTests d))
 cell-range from to d t = none-split (eqb from to && not (eqb d 0)) (distanceTests d) t .1
 
-cell-good : (from to d : ℕ) → (from ≡ to → d ≡ 0) → T (none (distanceTests d)) → T (none (cellTests from to d))
+pub cell-good : (from to d : ℕ) → (from ≡ to → d ≡ 0) → T (none (distanceTests d)) → T (none (cellTests from to d))
 cell-good from to d h t = none-cons (distanceTests d) (off (eqb from to) refl) t
   where
     off : (b : Bool) → eqb from to ≡ b → (eqb from to && not (eqb d 0)) ≡ false

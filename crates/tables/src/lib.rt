@@ -3,14 +3,14 @@
 ghost use mathlib.Core.Path.{_≡_};
 ghost use Prim.Native.Nat.{_+_, _≤_, _<_};
 ghost use lib.ListN.{length};
-ghost use lib.Dec.{eqb};
+ghost use lib.Dec.{eqb, ltb};
 ghost use Rattle.model.specs.Rows.{some, table, column};
 ghost use Rattle.model.specs.Lent.{was, col};
-ghost use Rattle.snapshot.specs.Limits.{mostRouters, roomDistances, mostPrefixes, mostRoutes};
+ghost use Rattle.snapshot.specs.Limits.{mostRouters, roomDistances, farthest, mostPrefixes, mostRoutes};
 ghost use Rattle.snapshot.specs.Ranges.{anyOf};
 ghost use Rattle.snapshot.specs.Plain.{routeIs};
 ghost use Rattle.snapshot.specs.Tables.{columns, tables, short};
-ghost use Rattle.tables.specs.Judging.{RoomRows, RoomPrefixes, Room, prefixTables, routeAt, start, cellTests, lateAt, IdGood, CellGood, RouteGood, PrefixGood, Below, InRange, Totalled, Decides, Judged, numbered, Verdicts};
+ghost use Rattle.tables.specs.Judging.{RoomRows, RoomPrefixes, Room, prefixTables, routeAt, start, lateAt, IdGood, CellGood, RouteGood, PrefixGood, Below, InRange, Totalled, Decides, Judged, numbered, Verdicts};
 
 // What is found of counts and tables: they hold a snapshot, or a refusal.
 pub enum Verdict {
@@ -62,19 +62,18 @@ fn counts_good(counts: snapshot::Counts) -> bool
         | (snapshot::MOST_ROUTES < counts.routes))
 }
 
-// Whether an id is one of the first k.
+// Whether an id is one of the first k. The loop is not left at the first that is found: so several are looked at in one step.
 fn twin(ids: &[u32], k: usize, id: u32) -> bool
     requires { ⌜ k ≤ length (now ids) ⌝ }
     ensures { λ r. ⌜ r ≡ some (eqb id) (table k (col ids)) ⌝ }
 {
+    let mut found = false;
     let mut i = 0;
     while i < k {
-        if id == ids[i] {
-            return true;
-        }
+        found = found | (id == ids[i]);
         i += 1;
     }
-    false
+    found
 }
 
 // Whether the ids of n routers are in their range, each given once.
@@ -93,26 +92,27 @@ fn ids_good(n: usize, ids: &[u32]) -> bool
     true
 }
 
-// Whether a distance is outside its range, or that of an equal pair and not 0.
-fn cell_bad(from: usize, to: usize, distance: u32) -> bool
-    ensures { λ r. ⌜ r ≡ anyOf (cellTests from to distance) ⌝ }
+// Whether one of n distances from a cell on is outside its range. The loop is not left at the first: so several are looked at in one step.
+fn far(n: usize, distances: &[u32], first: usize) -> bool
+    requires { ⌜ first + n ≤ length (now distances) ⌝ }
+    ensures { λ r. ⌜ r ≡ some (ltb farthest) (table n (λ k. col distances (first + k))) ⌝ }
 {
-    ((from == to) & (distance != 0)) | snapshot::distance_bad(distance)
+    let mut found = false;
+    let mut i = 0;
+    while i < n {
+        found = found | snapshot::distance_bad(distances[first + i]);
+        i += 1;
+    }
+    found
 }
 
-// Whether the distances from one router are in their range.
+// Whether the distances from one router are in their range, and that to itself is 0.
 fn row_good(n: usize, distances: &[u32], from: usize) -> bool
     requires { ⌜ (from < n) × (n ≤ mostRouters) × (roomDistances ≤ length (now distances)) ⌝ }
     ensures { λ r. ⌜ Decides (Below n (CellGood (was distances) from)) r ⌝ }
 {
-    let mut to = 0;
-    while to < n {
-        if cell_bad(from, to, distances[from * snapshot::STRIDE + to]) {
-            return false;
-        }
-        to += 1;
-    }
-    true
+    let first = from * snapshot::STRIDE;
+    !((distances[first + from] != 0) | far(n, distances, first))
 }
 
 // Whether the distances between n routers are in their range.

@@ -77,8 +77,8 @@ read-then-written bs s t {before} bytes enough read fits writes =
 -- ---- written and read again: the same counts and used rows
 
 -- the bytes written are those of a snapshot, which is the one that counts and tables hold
-written-back : {counts : Counts} {t : Tables} {before after : List ℕ} {q : Said} (n : ℕ) → Writes counts t before q after → q ≡ wrote n
-    → (s : Snapshot) × T (none (short t)) × Valid s × Held counts t s × (take n after ≡ encode s)
+pub written-back : {counts : Counts} {t : Tables} {before after : List ℕ} {q : Said} (n : ℕ) → Writes counts t before q after → q ≡ wrote n
+    → (s : Snapshot) × T (none (short t)) × Valid s × Held counts t s × (take n after ≡ encode s) × (n ≤ length before)
 written-back n (room h) e = absurd (let z : 1 ≡ 0 = ap (λ (q : Said). q .number) e in omega arith)
 written-back n (unheld m f) e = absurd (let z : 11 ≡ 0 = ap (λ (q : Said). q .number) e in omega arith)
 written-back n (full m s v h l) e = absurd (let z : 1 ≡ 0 = ap (λ (q : Said). q .number) e in omega arith)
@@ -90,6 +90,7 @@ written-back {before} n (done m s v h l) e = (
   ap (λ (k : ℕ). take k (sets before 0 (encode s))) (sym (ap (λ (q : Said). q .value) e))
       ∙ ap (take (length (encode s))) (sets-front before (encode s) l)
       ∙ take-append-seam (encode s) (drop (length (encode s)) before),
+  omega (arith, ap (λ (q : Said). q .value) e),
 )
 
 -- n bytes were written from counts and tables; reading them gives a snapshot with these counts, of which these tables are the rows: to
@@ -98,7 +99,7 @@ pub written-then-read : {counts : Counts} {t : Tables} {before after : List ℕ}
     → (s : Snapshot) × (reading (take n after) ≡ accepted s) × (counts ≡ countsOf s) × (filled s t ≡ t)
     × ((u : Tables) → T (none (short u)) → snapshotOf counts (filled s u) ≡ snapshotOf counts t)
 written-then-read {counts} {t} {n} writes =
-    let (s, enough, valid, held, is) = written-back n writes refl in (
+    let (s, enough, valid, held, is, _) = written-back n writes refl in (
       s,
       ap reading is ∙ written-read s valid,
       held .0,

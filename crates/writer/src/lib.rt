@@ -54,7 +54,8 @@ fn put_row(n: usize, distances: &[u32], from: usize, out: &mut [u8], first: usiz
             at,
             from as u32,
             to as u32,
-            distances[from * snapshot::STRIDE + to],
+            distances,
+            from * snapshot::STRIDE + to,
         );
         at += records::DISTANCE_SIZE;
         to += 1;
@@ -112,18 +113,16 @@ fn put_routes(
         records::put_route(
             out,
             at,
-            tables::route_at(
-                router,
-                asn,
-                preference,
-                path,
-                origin,
-                mark,
-                med,
-                nid,
-                peer,
-                row + k,
-            ),
+            router,
+            asn,
+            preference,
+            path,
+            origin,
+            mark,
+            med,
+            nid,
+            peer,
+            row + k,
         );
         at += records::ROUTE_SIZE;
         k += 1;

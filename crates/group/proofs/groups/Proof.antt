@@ -12,17 +12,17 @@ use Rattle.group.proofs.groups.Statement.{statement}
 use Rattle.group.proofs.groups.Tie as tie
 
 abbrev Inv-loop : tie.InvT-loop
-Inv-loop a b group₀ q₀ q-end group q = Stored 0 (groupBy (column a) (column b)) (length a) group₀ q group
+Inv-loop key group₀ q₀ q-end group q = Stored 0 (groupBy (column key)) (length key) group₀ q group
 
 abbrev μ-loop : tie.MeasureT-loop
-μ-loop a b group₀ q₀ q-end group q = length a - q
+μ-loop key group₀ q₀ q-end group q = length key - q
 
 cast : tie.Need-cast-group Inv-loop μ-loop
 cast c =
     let start : tie.Start Inv-loop μ-loop = search needs in
     let at : tie.At-loop Inv-loop μ-loop = search needs in
     let found : tie.After-group-of Inv-loop μ-loop = search needs in
-    omega (arith, found .group-of .ensures, group-le (column (now (start .args .a))) (column (now (start .args .b))) (at .loop .q))
+    omega (arith, found .group-of .ensures, group-le (column (now (start .args .key))) (at .loop .q))
 
 pub groups-spec : {M : Type 1} → statement M
 groups-spec =

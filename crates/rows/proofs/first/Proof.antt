@@ -1,18 +1,24 @@
--- `rows::first` meets its contract. No row before q is kept. Assumes nothing.
-use Prim.Native.Nat.{_-_}
-use lib.ListN.{length}
+-- `rows::first` meets its contract. By whether the list is empty. Assumes nothing.
+use native.Mathlib.Omega.{arith}
+use mathlib.Core.Path.{sym}
+use lib.ListN.{List·getD-eq-default}
+use denote.Ref.{now}
 use borrow.Author.Needs.{needs}
 use Rattle.model.specs.Decision.{none}
-use Rattle.model.specs.LoopLaws.{First, first, first-off, first-hit, first-end}
+use Rattle.model.specs.ColumnLaws.{getD-inside}
 use Rattle.rows.proofs.first.Statement.{statement}
 use Rattle.rows.proofs.first.Tie as tie
 
-abbrev Inv-loop : tie.InvT-loop
-Inv-loop kept q₀ q-end q = First none kept q
+returns : tie.Need-returns
+returns c =
+    let start : tie.Start = search needs in
+    sym (List·getD-eq-default (now (start .args .rows)) none (omega (arith, c .if1 .taken)))
 
-abbrev μ-loop : tie.MeasureT-loop
-μ-loop kept q₀ q-end q = length kept - q
+returns-2 : tie.Need-returns-2
+returns-2 c =
+    let start : tie.Start = search needs in
+    let some : tie.Else1 = search needs in
+    getD-inside (now (start .args .rows)) 0 0 none (omega (arith, some .if1 .left))
 
 pub first-spec : {M : Type 1} → statement M
-first-spec =
-    tie.close (tie.spec Inv-loop μ-loop (λ c. search first) (λ c. search needs) (λ c. search needs) (λ c. search first-hit) (λ c. search needs) (λ c. search needs) (λ c. search first-off) (λ c. search first-end))
+first-spec = tie.close (tie.spec returns (λ c. search needs) returns-2)

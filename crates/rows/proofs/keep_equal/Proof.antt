@@ -1,19 +1,26 @@
--- `rows::keep_equal` meets its contract. The flags before q say which of the kept rows have the key. Assumes nothing.
+-- `rows::keep_equal` meets its contract. The rows before place i with the key are packed into the front, n of them. Assumes nothing.
 use Prim.Native.Nat.{_-_}
 use lib.ListN.{length}
-use borrow.Author.Needs.{needs}
 use lib.Dec.{eqb}
+use borrow.Author.Needs.{needs}
 use Rattle.model.specs.Rows.{column}
-use Rattle.model.specs.LoopLaws.{Sieve, sieve, sieve-next, sieve-end}
+use Rattle.model.specs.ListLaws.{Squeeze, squeeze, squeeze-here, squeeze-off, squeeze-on, squeeze-end}
 use Rattle.rows.proofs.keep_equal.Statement.{statement}
 use Rattle.rows.proofs.keep_equal.Tie as tie
 
 abbrev Inv-loop : tie.InvT-loop
-Inv-loop key kept₀ value q₀ q-end kept q = Sieve (λ q. eqb (column key q) value) kept₀ q kept
+Inv-loop key rows₀ value n₀ i₀ i-end rows n i = Squeeze (λ q. eqb (column key q) value) rows₀ i n rows
 
 abbrev μ-loop : tie.MeasureT-loop
-μ-loop key kept₀ value q₀ q-end kept q = length kept₀ - q
+μ-loop key rows₀ value n₀ i₀ i-end rows n i = length rows₀ - i
+
+has-key-requires : tie.Need-has-key-requires Inv-loop μ-loop
+has-key-requires c κs =
+    let start : tie.Start Inv-loop μ-loop = search needs in
+    let at : tie.At-loop Inv-loop μ-loop = search needs in
+    let turn : tie.In-loop Inv-loop μ-loop = search needs in
+    (search needs, rw (squeeze-here (at .loop .inv)) (start .pre .below _ (turn .loop-test .taken)))
 
 pub keep-equal-spec : {M : Type 1} → statement M
 keep-equal-spec =
-    tie.close (tie.spec Inv-loop μ-loop (λ c. search sieve) (λ c κs. search needs) (λ c. search needs) (λ c. search needs) (λ c. search needs) (λ c. search sieve-next) (λ c. search needs) (λ c. search sieve-end))
+    tie.close (tie.spec Inv-loop μ-loop (λ c. search squeeze) (λ c. search needs) (λ c. search needs) has-key-requires (λ c. search needs) (λ c. search needs) (λ c. search needs) (λ c. search needs) (λ c. search needs) (λ c. search squeeze-on) (λ c. search needs) (λ c. search needs) (λ c. search squeeze-off) (λ c. search needs) (λ c. search squeeze-end))

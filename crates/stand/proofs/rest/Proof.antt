@@ -8,7 +8,7 @@ use Rattle.stand.proofs.rest.Tie as tie
 rest-in-requires : tie.Need-rest-in-requires
 rest-in-requires c κs =
     let start : tie.Start = search needs in
-    (start .pre .0, (simp length-take (omega arith), start .pre .1))
+    (start .pre .0, (start .pre .1 .0, simp length-take (omega (arith, start .pre .0 .few)), start .pre .1 .1))
 
 pub rest-spec : {M : Type 1} → statement M
 rest-spec =

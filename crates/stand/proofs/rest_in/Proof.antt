@@ -1,8 +1,9 @@
 -- `stand::rest_in` meets its contract. Rounds, then the rows at the places to which they lead. Assumes nothing.
 use Prim.Native.Nat.{ℕ}
-use native.Mathlib.Omega.{arith}
-use mathlib.Core.Path.{ap₂, _∙_}
+use mathlib.Core.Path.{sym, ap, _∙_}
 use mathlib.Core.List.{List}
+use native.Mathlib.Omega.{arith}
+use lib.ListN.{length}
 use denote.Ref.{now}
 use borrow.Author.Needs.{needs}
 use Rattle.model.specs.Rows.{table}
@@ -13,7 +14,9 @@ use Rattle.stand.proofs.rest_in.Tie as tie
 rows-at-requires : tie.Need-rows-at-requires
 rows-at-requires c κs =
     let start : tie.Start = search needs in
-    (search needs, search needs, search needs, search needs, λ q l. omega (arith, start .pre .0 .owned q l))
+    let led : tie.After-settled = search needs in
+    let ready = start .pre .0 in
+    (omega (arith, ready .rows, start .pre .1 .0), ready .whole ∙ sym (start .pre .1 .0), led .settled .kept .1 .1 .1 .1 .0 ∙ start .pre .1 .1, start .pre .1 .2)
 
 returns : tie.Need-returns
 returns c =
@@ -21,8 +24,7 @@ returns c =
     let led : tie.After-settled = search needs in
     let done : tie.After-rows-at = search needs in
     let a = start .args in
-    done .rows-at .ensures
-    ∙ ap₂ (λ (n : ℕ) (x : List ℕ). table n (standsAt (now (a .router)) (now (a .place)) (now (a .contends)) x)) (start .pre .1 .1) (led .settled .ensures)
+    done .rows-at .ensures ∙ ap (λ (x : List ℕ). table (length (now (a .ends))) (standsAt (now (a .order)) (now (a .ends)) x)) (led .settled .ensures)
 
 pub rest-in-spec : {M : Type 1} → statement M
 rest-in-spec =

@@ -1,43 +1,60 @@
--- `stand::rows_at` meets its contract. What is lowered from none is the first row, or none. Assumes nothing.
-use Prim.Native.Nat.{ℕ}
+-- `stand::rows_at` meets its contract. The rows of the routers before r are stored. Assumes nothing.
+use Prim.Native.Nat.{ℕ, _+_, _-_, _≤_}
 use native.Mathlib.Omega.{arith}
 use mathlib.Core.Path.{ap, _∙_}
-use mathlib.Core.Bool.{_&&_}
 use mathlib.Core.List.{List}
-use lib.ListN.{length}
-use lib.Dec.{eqb}
+use lib.ListN.{length, getD}
 use denote.Ref.{now}
 use borrow.Author.Needs.{needs}
-use Rattle.model.specs.Rows.{keep, table, column}
+use Rattle.model.specs.Rows.{column}
 use Rattle.model.specs.Decision.{none}
-use Rattle.model.specs.Contest.{leastOr}
-use Rattle.model.specs.Lent.{rowsOf}
 use Rattle.model.specs.Listing.{standsAt}
-use Rattle.model.specs.RowLaws.{table-at}
-use Rattle.model.specs.ColumnLaws.{column-is}
+use Rattle.model.specs.LoopLaws.{Stored, stored, stored-next, stored-end}
+use Rattle.model.specs.RoundLaws.{Turn, turn, turn-next, turn-room, turn-own}
 use Rattle.stand.proofs.rows_at.Statement.{statement}
 use Rattle.stand.proofs.rows_at.Tie as tie
 
-stand-requires : tie.Need-stand-requires
-stand-requires c κs =
-    let start : tie.Start = search needs in
-    (search needs, search needs, search needs, search needs, λ q l. omega (arith, start .pre .4 q l))
+abbrev Inv-loop : tie.InvT-loop
+Inv-loop order ends state own₀ from₀ r₀ r-end own from r = Turn (length order) ends r from × Stored 0 (standsAt order ends state) (length ends) own₀ r own
 
-returns : tie.Need-returns
-returns c =
-    let start : tie.Start = search needs in
-    let cleared : tie.After-clear = search needs in
-    let stood : tie.After-stand = search needs in
-    let a = start .args in
-    let n = length (now (a .own)) in
-    let f = standsAt (now (a .router)) (now (a .place)) (now (a .contends)) (now (a .state)) in
-    let long = stood .stand .kept .1 .1 .1 .1 .0 ∙ cleared .clear .kept .0 in
-    column-is (stood .stand .last .1 .1 .1 .1 .0) f (λ r l.
-    stood .stand .ensures r
-    ∙ ap (λ (past : ℕ). leastOr past (λ q. q) (keep (λ q. eqb (column (now (a .place)) q) (column (now (a .state)) (column (now (a .router)) q)) && eqb (column (now (a .router)) q) r) (rowsOf (now (a .contends)))))
-    (ap (λ (own : List ℕ). column own r) (cleared .clear .ensures) ∙ table-at (λ r. none) 0 n r (omega arith)))
-    ∙ ap (λ (k : ℕ). table k f) long
+abbrev μ-loop : tie.MeasureT-loop
+μ-loop order ends state own₀ from₀ r₀ r-end own from r = length ends - r
+
+abbrev start-of : tie.In-loop Inv-loop μ-loop → tie.Start Inv-loop μ-loop
+start-of c = search needs
+
+-- the rows of the router in turn are in the list
+room : (c : tie.In-loop Inv-loop μ-loop) → c .before .loop .from + column (now (start-of c .args .ends)) (c .before .loop .r) ≤ length (now (start-of c .args .order))
+room c = turn-room (c .before .loop .inv .0) (c .loop-test .taken)
+
+cast-to : tie.Need-cast-to Inv-loop μ-loop
+cast-to c =
+    let turn : tie.In-loop Inv-loop μ-loop = search needs in
+    record { fits = omega (arith, room turn, start-of turn .pre .0) }
+
+add-to : tie.Need-add-to Inv-loop μ-loop
+add-to c =
+    let turn : tie.In-loop Inv-loop μ-loop = search needs in
+    record { fits = omega (arith, room turn, start-of turn .pre .0) }
+
+mul-row-at : tie.Need-mul-row-at Inv-loop μ-loop
+mul-row-at c =
+    let turn : tie.In-loop Inv-loop μ-loop = search needs in
+    record { fits = omega (arith, room turn, start-of turn .pre .0) }
+
+part-row-at-end : tie.Need-part-row-at-end Inv-loop μ-loop
+part-row-at-end c =
+    let turn : tie.In-loop Inv-loop μ-loop = search needs in
+    room turn
+
+loop-again : tie.Need-loop-again Inv-loop μ-loop
+loop-again c =
+    let turn : tie.In-loop Inv-loop μ-loop = search needs in
+    let found : tie.After-row-at Inv-loop μ-loop = search needs in
+    let at = turn .before .loop in
+    let l = turn .loop-test .taken in
+    (turn-next (at .inv .0) l, stored-next (at .inv .1) l (found .row-at .ensures ∙ ap (λ (rows : List ℕ). getD rows (column (now (start-of turn .args .state)) (at .r)) none) (turn-own (at .inv .0) (now (start-of turn .args .order)))))
 
 pub rows-at-spec : {M : Type 1} → statement M
 rows-at-spec =
-    tie.close (tie.spec (λ c κs. search needs) stand-requires (λ c. search needs) returns)
+    tie.close (tie.spec Inv-loop μ-loop (λ c. search (turn, stored, needs)) (λ c. search needs) (λ c. search needs) cast-to add-to mul-row-at (λ c. search needs) (λ c. search needs) part-row-at-end (λ c. search needs) (λ c. search needs) (λ c κs. search needs) (λ c. search needs) (λ c. search needs) (λ c. search needs) (λ c. search needs) loop-again (λ c. search needs) (λ c. stored-end (c .before .loop .inv .1) (c .loop-test .left)))

@@ -1,13 +1,10 @@
 -- `put_routes` meets its contract: the records of the routes from the k-th on are left. Assumes nothing.
 use Prim.Native.Nat.{_-_}
 use native.Mathlib.Omega.{arith}
-use mathlib.Core.Path.{refl, ap, _∙_}
-use lib.Seq.{sets}
+use mathlib.Core.Path.{refl}
 use denote.Ref.{now}
 use borrow.Author.Needs.{needs}
-use Rattle.model.specs.Decision.{Route}
-use Rattle.snapshot.specs.Records.{routeForm, written}
-use Rattle.snapshot.specs.Format.{routeFields, routesBytes}
+use Rattle.snapshot.specs.Format.{routesBytes}
 use Rattle.snapshot.specs.Tables.{Columns, columns}
 use Rattle.tables.specs.Judging.{routesAt}
 use Rattle.writer.specs.SectionsLaws.{Section, section, section-room, section-next, section-long, section-end, routesFrom, routes-first, routes-next, routes-last}
@@ -35,11 +32,10 @@ put-routes-spec =
     μ-loop
     (λ c. let start : tie.Start Inv-loop μ-loop = search needs in section (routes-first (lent start) (start .args .row) (start .args .count)) (start .pre .2))
     (λ c. search needs)
-    (λ c κs. search needs)
     (λ c κs.
     let start : tie.Start Inv-loop μ-loop = search needs in
     let turn : tie.In-loop Inv-loop μ-loop = search needs in
-    section-room (turn .before .loop .inv) (turn .loop-test .taken) (routes-next (lent start) (start .args .row) (start .args .count) (turn .before .loop .k) (turn .loop-test .taken)) .fits)
+    (section-room (turn .before .loop .inv) (turn .loop-test .taken) (routes-next (lent start) (start .args .row) (start .args .count) (turn .before .loop .k) (turn .loop-test .taken)) .fits, omega arith, start .pre .1))
     (λ c.
     let start : tie.Start Inv-loop μ-loop = search needs in
     let turn : tie.In-loop Inv-loop μ-loop = search needs in
@@ -50,9 +46,8 @@ put-routes-spec =
     (λ c.
     let start : tie.Start Inv-loop μ-loop = search needs in
     let turn : tie.In-loop Inv-loop μ-loop = search needs in
-    let read : tie.After-route-at Inv-loop μ-loop = search needs in
     let put : tie.After-put-route Inv-loop μ-loop = search needs in
     section-next (turn .before .loop .inv) (turn .loop-test .taken) (routes-next (lent start) (start .args .row) (start .args .count) (turn .before .loop .k) (turn .loop-test .taken))
-    (put .put-route .ensures ∙ ap (λ (r : Route). sets (turn .before .loop .out) (turn .before .loop .at) (written routeForm (routeFields r))) (read .route-at .ensures)) refl)
+    (put .put-route .ensures) refl)
     (λ c. section-long (c .before .loop .inv))
     (λ c. let start : tie.Start Inv-loop μ-loop = search needs in section-end (c .before .loop .inv) (c .loop-test .left) (routes-last (lent start) (start .args .row) (start .args .count))))

@@ -32,13 +32,11 @@ put-row-spec =
     (λ c. search needs)
     (λ c. search needs)
     (λ c. search needs)
-    (λ c. search needs)
-    (λ c. search needs)
     (λ c κs.
     let start : tie.Start Inv-loop μ-loop = search needs in
     let turn : tie.In-loop Inv-loop μ-loop = search needs in
     let past : tie.Else1 Inv-loop μ-loop = search needs in
-    section-room (turn .before .loop .inv) (turn .loop-test .taken) (row-other (now (start .args .distances)) (start .args .n) (start .args .from) (turn .before .loop .to) (turn .loop-test .taken) (past .if1 .left)) .fits)
+    (section-room (turn .before .loop .inv) (turn .loop-test .taken) (row-other (now (start .args .distances)) (start .args .n) (start .args .from) (turn .before .loop .to) (turn .loop-test .taken) (past .if1 .left)) .fits, omega arith))
     (λ c.
     let start : tie.Start Inv-loop μ-loop = search needs in
     let turn : tie.In-loop Inv-loop μ-loop = search needs in
