@@ -49,7 +49,8 @@ pub fn outlook(counts: Counts, tables: &Tables, prefix: usize, early: &mut [u16]
     Outlook { word, open: word.count_ones() }
 }
 
-/// What each router chooses from its own rows and from those which the others hold at these standings.
+/// What each router holds where the contest is at rest at these standings: the row of its own at which it stands, and
+/// without one what it chooses from its own rows and from those which the others hold.
 fn hold(tables: &Tables, rows: &Range<usize>, contest: &Contest, standings: &[usize; ROUTERS], answer: &mut [u16]) {
     let mut held = [None; ROUTERS];
     for (router, held) in held.iter_mut().enumerate().take(answer.len()) {
@@ -57,10 +58,17 @@ fn hold(tables: &Tables, rows: &Range<usize>, contest: &Contest, standings: &[us
     }
     let mut own_end = rows.start;
     for (router, entry) in answer.iter_mut().enumerate() {
-        let mut available = Rows::none();
+        let own_start = own_end;
         while own_end < rows.end && tables.routes.router[own_end] as usize == router {
-            available.push(own_end);
             own_end += 1;
+        }
+        if let Some(row) = held[router] {
+            *entry = (row - rows.start) as u16;
+            continue;
+        }
+        let mut available = Rows::none();
+        for row in own_start..own_end {
+            available.push(row);
         }
         for row in held[..router].iter().chain(&held[router + 1..]).flatten() {
             available.push(*row);

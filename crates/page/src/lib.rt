@@ -255,7 +255,7 @@ fn put_page(
         nid,
         peer,
     ) {
-        Read::Refused(r, at) => lines::put_refused(out, 0, refusal::number(r), 0),
+        Read::Refused(r, at) => lines::put_refused(out, 0, refusal::number(r), at),
         Read::Accepted(counts) => put_tables(
             out,
             counts,
