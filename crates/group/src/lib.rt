@@ -6,32 +6,34 @@ ghost use mathlib.Core.Bool.{not};
 ghost use Prim.Native.Nat.{ℕ, _≤_, _<_};
 ghost use lib.ListN.{length};
 ghost use lib.Dec.{eqb, ltb};
-ghost use Rattle.model.specs.Rows.{keep, span, table, column};
+ghost use Rattle.model.specs.Rows.{keep, span, column};
 ghost use Rattle.model.specs.Contest.{leastOr};
-ghost use Rattle.model.specs.Lent.{was, is, col};
+ghost use Rattle.model.specs.Lent.{was, is, col, Inside};
 ghost use Rattle.model.specs.Columns.{mostRows};
-ghost use Rattle.model.specs.Listing.{groupBy, firstPlace};
+ghost use Rattle.model.specs.Listing.{groupBy, groupsIn, firstPlace};
 
-// The first row that has what q has in a column.
-fn group_of(key: &[u32], q: usize) -> usize
-    requires { ⌜ q < length (now key) ⌝ }
-    ensures { λ r. ⌜ r ≡ groupBy (col key) q ⌝ }
+// The first place of a list whose row has what the row at place k has in a column.
+fn group_of(key: &[u32], rows: &[u16], k: usize) -> usize
+    requires { ⌜ Inside (length (now key)) (now rows) × (k < length (now rows)) ⌝ }
+    ensures { λ r. ⌜ r ≡ groupBy (λ p. col key (col rows p)) k ⌝ }
 {
-    for p in 0..q {
-        if key[p] == key[q] {
+    let q = rows::at(rows, k);
+    let value = key[q];
+    for p in 0..k {
+        if rows::has_key(key, rows, p, value) {
             return p;
         }
     }
-    q
+    k
 }
 
-// For each row its group: the first row that has what it has in a column.
-pub fn groups(key: &[u32], group: &mut [u32])
-    requires { ⌜ (length (now key) ≤ mostRows) × (length (now group) ≡ length (now key)) ⌝ }
-    ensures { λ _. ⌜ is group ≡ table (length (was key)) (groupBy (col key)) ⌝ }
+// For each place of a list the group of its row: the first place whose row has the same in a column.
+pub fn groups(key: &[u32], rows: &[u16], group: &mut [u32])
+    requires { ⌜ Inside (length (now key)) (now rows) × (length (now rows) ≤ mostRows) × (length (now group) ≡ length (now rows)) ⌝ }
+    ensures { λ _. ⌜ is group ≡ groupsIn (was key) (was rows) ⌝ }
 {
-    for q in 0..key.len() {
-        group[q] = group_of(key, q) as u32;
+    for k in 0..rows.len() {
+        group[k] = group_of(key, rows, k) as u32;
     }
 }
 

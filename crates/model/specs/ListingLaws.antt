@@ -417,8 +417,12 @@ module _ (routers : ℕ) (t : Columns) (f : Fits routers t) where
   ends-here : length ends ≡ routers
   ends-here = table-length routers (λ r. count (λ q. eqb (column (t .router) q) r) order)
 
+  -- the neighbour AS of the contender at a place
+  abbrev asn : ℕ → ℕ
+  asn k = column (t .asn) (column order k)
+
   group-here : length group ≡ length order
-  group-here = table-length (length order) (groupBy (column (gathered (t .asn) order)))
+  group-here = table-length (length order) (groupBy asn)
 
   pub contenders-few : length order ≤ mostRows
   contenders-few = omega (
@@ -437,20 +441,16 @@ module _ (routers : ℕ) (t : Columns) (f : Fits routers t) where
     few = omega (arith, f .few, ends-here);
     rows = omega (arith, group-here, contenders-few);
     med-long = table-length (length order) (λ k. column (t .med) (column order k)) ∙ sym group-here;
-    grouped = λ q l. group-within (column (gathered (t .asn) order)) (length order) mostRows refl contenders-few q (omega (arith, group-here));
+    grouped = λ q l. group-within asn (length order) mostRows refl contenders-few q (omega (arith, group-here));
     whole = whole-here ∙ sym group-here;
   }
 
   -- what beats what, by place
   agree-here : (p q : ℕ) → p < length order → q < length order → beatsBy (column group) (column med) p q ≡ beats M (column order p) (column order q)
   agree-here p q l m =
-      beats-grouped (column (gathered (t .asn) order)) (column med) (length order) p q l m
-      ∙ ap₂ (λ (x y : ℕ). eqb x y && ltb (column med p) (column med q)) (table-at asn 0 (length order) p l) (table-at asn 0 (length order) q m)
+      beats-grouped asn (column med) (length order) p q l m
       ∙ ap₂ (λ (x y : ℕ). eqb (asn p) (asn q) && ltb x y) (table-at metric′ 0 (length order) p l) (table-at metric′ 0 (length order) q m)
     where
-      asn : ℕ → ℕ
-      asn k = column (t .asn) (column order k)
-
       metric′ : ℕ → ℕ
       metric′ k = column (t .med) (column order k)
 

@@ -68,7 +68,6 @@ fn rest_rows(
     asn: &[u32],
     med: &[u32],
     order: &[u16],
-    asns: &mut [u32],
     meds: &mut [u32],
     group: &mut [u32],
     ends: &mut [u32],
@@ -76,14 +75,13 @@ fn rest_rows(
     late: &mut [u16],
 )
     requires { ⌜ Inside (length (now router)) (now order) × (length (now asn) ≡ length (now router)) × (length (now med) ≡ length (now router)) × ((q : ℕ) → q < length (now router) → column (now router) q < length (now ends)) ⌝ }
-    requires { ⌜ (length (now asns) ≡ length (now order)) × (length (now meds) ≡ length (now order)) × (length (now group) ≡ length (now order)) × (length (now early) ≡ length (now ends)) × (length (now late) ≡ length (now ends)) ⌝ }
+    requires { ⌜ (length (now meds) ≡ length (now order)) × (length (now group) ≡ length (now order)) × (length (now early) ≡ length (now ends)) × (length (now late) ≡ length (now ends)) ⌝ }
     requires { ⌜ Ready (groupsIn (now asn) (now order)) (gathered (now med) (now order)) (countsIn (now router) (length (now ends)) (now order)) ⌝ }
     ensures { λ _. ⌜ (is early ≡ restIn false (length (was ends)) (was router) (was asn) (was med) (was order)) × (is late ≡ restIn true (length (was ends)) (was router) (was asn) (was med) (was order)) ⌝ }
 {
     contender::ends(router, order, ends);
-    rows::gather(asn, order, asns);
     rows::gather(med, order, meds);
-    group::groups(asns, group);
+    group::groups(asn, order, group);
     rest(false, order, group, meds, ends, early);
     rest(true, order, group, meds, ends, late);
 }
@@ -107,7 +105,6 @@ pub fn own_rows(
 {
     let mut list = rows::unlisted();
     let mut order = rows::unlisted();
-    let mut asns = rows::past();
     let mut meds = rows::past();
     let mut group = rows::past();
     let mut ends = settle::unplaced();
@@ -131,7 +128,6 @@ pub fn own_rows(
         asn,
         med,
         &order[..m],
-        &mut asns[..m],
         &mut meds[..m],
         &mut group[..m],
         &mut ends[..routers],

@@ -1,4 +1,4 @@
--- `group::groups` meets its contract. The groups before q are stored; a group is no later than its row, so it fits. Assumes nothing.
+-- `group::groups` meets its contract. The groups before place k are stored; a group is no later than its place, so it fits. Assumes nothing.
 use Prim.Native.Nat.{_-_}
 use native.Mathlib.Omega.{arith}
 use lib.ListN.{length}
@@ -12,17 +12,17 @@ use Rattle.group.proofs.groups.Statement.{statement}
 use Rattle.group.proofs.groups.Tie as tie
 
 abbrev Inv-loop : tie.InvT-loop
-Inv-loop key group₀ q₀ q-end group q = Stored 0 (groupBy (column key)) (length key) group₀ q group
+Inv-loop key rows group₀ k₀ k-end group k = Stored 0 (groupBy (λ p. column key (column rows p))) (length rows) group₀ k group
 
 abbrev μ-loop : tie.MeasureT-loop
-μ-loop key group₀ q₀ q-end group q = length key - q
+μ-loop key rows group₀ k₀ k-end group k = length rows - k
 
 cast : tie.Need-cast-group Inv-loop μ-loop
 cast c =
     let start : tie.Start Inv-loop μ-loop = search needs in
     let at : tie.At-loop Inv-loop μ-loop = search needs in
     let found : tie.After-group-of Inv-loop μ-loop = search needs in
-    omega (arith, found .group-of .ensures, group-le (column (now (start .args .key))) (at .loop .q))
+    omega (arith, found .group-of .ensures, group-le (λ p. column (now (start .args .key)) (column (now (start .args .rows)) p)) (at .loop .k))
 
 pub groups-spec : {M : Type 1} → statement M
 groups-spec =

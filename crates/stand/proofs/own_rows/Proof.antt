@@ -102,9 +102,6 @@ array-share-prefix-order c = let listed : tie.After-contenders = search needs in
 slice-aggregate-rest-rows : tie.Need-slice-aggregate-rest-rows
 slice-aggregate-rest-rows c = let listed : tie.After-contenders = search needs in front-long (front listed _)
 
-array-borrow-prefix-asns : tie.Need-array-borrow-prefix-asns
-array-borrow-prefix-asns c = let listed : tie.After-contenders = search needs in omega (arith, few listed)
-
 slice-aggregate-rest-rows-2 : tie.Need-slice-aggregate-rest-rows-2
 slice-aggregate-rest-rows-2 c = let listed : tie.After-contenders = search needs in simp length-take (omega (arith, few listed))
 
@@ -117,25 +114,21 @@ slice-aggregate-rest-rows-3 c = let listed : tie.After-contenders = search needs
 array-borrow-prefix-group : tie.Need-array-borrow-prefix-group
 array-borrow-prefix-group c = let listed : tie.After-contenders = search needs in omega (arith, few listed)
 
-slice-aggregate-rest-rows-4 : tie.Need-slice-aggregate-rest-rows-4
-slice-aggregate-rest-rows-4 c = let listed : tie.After-contenders = search needs in simp length-take (omega (arith, few listed))
-
 array-borrow-prefix-ends-2 : tie.Need-array-borrow-prefix-ends-2
 array-borrow-prefix-ends-2 c = let listed : tie.After-contenders = search needs in ends-room listed _
 
-slice-aggregate-rest-rows-5 : tie.Need-slice-aggregate-rest-rows-5
-slice-aggregate-rest-rows-5 c = let listed : tie.After-contenders = search needs in sym (ends-long listed _)
+slice-aggregate-rest-rows-4 : tie.Need-slice-aggregate-rest-rows-4
+slice-aggregate-rest-rows-4 c = let listed : tie.After-contenders = search needs in sym (ends-long listed _)
 
 rest-rows-requires : tie.Need-rest-rows-requires
 rest-rows-requires c κs =
     let listed : tie.After-contenders = search needs in
     let fit = fits listed in
     let first : tie.After-past = search needs in
-    let second : tie.After-past2 = search needs in
-    let third : tie.After-past3 = search needs in (
+    let second : tie.After-past2 = search needs in (
       (front-inside (front listed _) (contenders-inside (routers listed) (t listed) fit), fit .asn, fit .med, owned-here listed _),
       (
-        (part-long listed _ (first .past .ensures), part-long listed _ (second .past2 .ensures), part-long listed _ (third .past3 .ensures), sym (ends-long listed _), start listed .pre .1 ∙ sym (ends-long listed _)),
+        (part-long listed _ (first .past .ensures), part-long listed _ (second .past2 .ensures), sym (ends-long listed _), start listed .pre .1 ∙ sym (ends-long listed _)),
         ready-here listed _ _,
       ),
     )
@@ -151,7 +144,7 @@ returns c =
 
 pub own-rows-spec : {M : Type 1} → statement M
 own-rows-spec =
-    tie.close (tie.spec (λ c κs. search needs) (λ c κs. search needs) (λ c κs. search needs) (λ c κs. search needs) (λ c κs. search needs) (λ c κs. search needs)
+    tie.close (tie.spec (λ c κs. search needs) (λ c κs. search needs) (λ c κs. search needs) (λ c κs. search needs) (λ c κs. search needs)
     (λ c. search needs) (λ c. simp length-take (omega arith)) (λ c. search needs) (λ c. simp length-take (omega arith)) (λ c. search needs) (λ c. simp length-take (omega arith)) contenders-requires
-    array-share-prefix-order slice-aggregate-rest-rows array-borrow-prefix-asns slice-aggregate-rest-rows-2 array-borrow-prefix-meds slice-aggregate-rest-rows-3 array-borrow-prefix-group slice-aggregate-rest-rows-4
-    array-borrow-prefix-ends-2 slice-aggregate-rest-rows-5 rest-rows-requires (λ c. search needs) (λ c. search needs) returns)
+    array-share-prefix-order slice-aggregate-rest-rows array-borrow-prefix-meds slice-aggregate-rest-rows-2 array-borrow-prefix-group slice-aggregate-rest-rows-3
+    array-borrow-prefix-ends-2 slice-aggregate-rest-rows-4 rest-rows-requires (λ c. search needs) (λ c. search needs) returns)

@@ -22,10 +22,7 @@ start-of c = search needs
 abbrev ended-of : tie.After-gather → tie.After-ends
 ended-of c = search needs
 
-abbrev asns-of : tie.After-gather2 → tie.After-gather
-asns-of c = search needs
-
-abbrev meds-of : tie.After-groups → tie.After-gather2
+abbrev meds-of : tie.After-groups → tie.After-gather
 meds-of c = search needs
 
 abbrev grouped-of : tie.After-rest → tie.After-groups
@@ -37,32 +34,28 @@ first-of c = search needs
 -- the lists by place are those of the contenders
 module _ (c : tie.After-groups) where
   abbrev begun : tie.Start
-  begun = start-of (ended-of (asns-of (meds-of c)))
+  begun = start-of (ended-of (meds-of c))
 
   abbrev order : List ℕ
   order = now (begun .args .order)
 
   abbrev ends : List ℕ
-  ends = ended-of (asns-of (meds-of c)) .ends .last .1 .1 .0
+  ends = ended-of (meds-of c) .ends .last .1 .1 .0
 
   abbrev meds : List ℕ
-  meds = meds-of c .gather2 .last .1 .1 .0
+  meds = meds-of c .gather .last .1 .1 .0
 
   abbrev group : List ℕ
-  group = c .groups .last .1 .0
+  group = c .groups .last .1 .1 .0
 
   ends-are : ends ≡ countsIn (now (begun .args .router)) (length (now (begun .args .ends))) order
-  ends-are = ended-of (asns-of (meds-of c)) .ends .ensures
+  ends-are = ended-of (meds-of c) .ends .ensures
 
   meds-are : meds ≡ gathered (now (begun .args .med)) order
-  meds-are = meds-of c .gather2 .ensures
+  meds-are = meds-of c .gather .ensures
 
   group-is : group ≡ groupsIn (now (begun .args .asn)) order
-  group-is =
-      let asns = asns-of (meds-of c) .gather .ensures in
-      c .groups .ensures
-      ∙ ap (λ (xs : List ℕ). table (length xs) (groupBy (column xs))) asns
-      ∙ ap (λ (n : ℕ). table n (groupBy (column (gathered (now (begun .args .asn)) order)))) (table-length (length order) (λ k. column (now (begun .args .asn)) (column order k)))
+  group-is = c .groups .ensures
 
   ready-here : Ready group meds ends
   ready-here =
@@ -72,10 +65,10 @@ module _ (c : tie.After-groups) where
       (begun .pre .1 .1)))
 
   group-long : length order ≡ length group
-  group-long = sym (ap length group-is ∙ table-length (length order) (groupBy (column (gathered (now (begun .args .asn)) order))))
+  group-long = sym (ap length group-is ∙ table-length (length order) (groupBy (λ k. column (now (begun .args .asn)) (column order k))))
 
   ends-long : length ends ≡ length (now (begun .args .ends))
-  ends-long = ended-of (asns-of (meds-of c)) .ends .kept .1 .1 .0
+  ends-long = ended-of (meds-of c) .ends .kept .1 .1 .0
 
   rest-is : (late : Bool) → table (length ends) (standsAt order ends (settledBy late group meds ends)) ≡ restIn late (length (now (begun .args .ends))) (now (begun .args .router)) (now (begun .args .asn)) (now (begun .args .med)) order
   rest-is late =
@@ -88,38 +81,30 @@ ends-requires c κs =
     let start : tie.Start = search needs in
     let ready = start .pre .1 .1 in
     let order = now (start .args .order) in
-    (start .pre .0 .0, omega (arith, ready .rows, table-length (length order) (groupBy (column (gathered (now (start .args .asn)) order)))), start .pre .0 .3)
+    (start .pre .0 .0, omega (arith, ready .rows, table-length (length order) (groupBy (λ k. column (now (start .args .asn)) (column order k)))), start .pre .0 .3)
 
 gather-requires : tie.Need-gather-requires
 gather-requires c κs =
     let start : tie.Start = search needs in
-    (inside-long (start .pre .0 .0) (start .pre .0 .1), start .pre .1 .0 .0)
-
-gather-requires-2 : tie.Need-gather-requires-2
-gather-requires-2 c κs =
-    let start : tie.Start = search needs in
-    (inside-long (start .pre .0 .0) (start .pre .0 .2), start .pre .1 .0 .1)
+    (inside-long (start .pre .0 .0) (start .pre .0 .2), start .pre .1 .0 .0)
 
 groups-requires : tie.Need-groups-requires
 groups-requires c κs =
-    let meds : tie.After-gather2 = search needs in
-    let asns = asns-of meds in
-    let start = start-of (ended-of asns) in
+    let start : tie.Start = search needs in
     let ready = start .pre .1 .1 in
     let order = now (start .args .order) in
-    let long = asns .gather .kept .1 .1 .0 ∙ start .pre .1 .0 .0 in
-    (omega (arith, long, ready .rows, table-length (length order) (groupBy (column (gathered (now (start .args .asn)) order)))), start .pre .1 .0 .2 ∙ sym long)
+    (inside-long (start .pre .0 .0) (start .pre .0 .1), omega (arith, ready .rows, table-length (length order) (groupBy (λ k. column (now (start .args .asn)) (column order k)))), start .pre .1 .0 .1)
 
 rest-requires : tie.Need-rest-requires
 rest-requires c κs =
     let grouped : tie.After-groups = search needs in
-    (ready-here grouped, (group-long grouped, begun grouped .pre .1 .0 .3 ∙ sym (ends-long grouped)))
+    (ready-here grouped, (group-long grouped, begun grouped .pre .1 .0 .2 ∙ sym (ends-long grouped)))
 
 rest-requires-2 : tie.Need-rest-requires-2
 rest-requires-2 c κs =
     let first : tie.After-rest = search needs in
     let grouped = grouped-of first in
-    (ready-here grouped, (group-long grouped, begun grouped .pre .1 .0 .4 ∙ sym (ends-long grouped)))
+    (ready-here grouped, (group-long grouped, begun grouped .pre .1 .0 .3 ∙ sym (ends-long grouped)))
 
 returns : tie.Need-returns
 returns c =
@@ -130,4 +115,4 @@ returns c =
 
 pub rest-rows-spec : {M : Type 1} → statement M
 rest-rows-spec =
-    tie.close (tie.spec ends-requires gather-requires gather-requires-2 groups-requires rest-requires rest-requires-2 (λ c. search needs) (λ c. search needs) (λ c. search needs) (λ c. search needs) (λ c. search needs) (λ c. search needs) returns)
+    tie.close (tie.spec ends-requires gather-requires groups-requires rest-requires rest-requires-2 (λ c. search needs) (λ c. search needs) (λ c. search needs) (λ c. search needs) (λ c. search needs) returns)
