@@ -69,7 +69,7 @@ enum {
  *
  * The call takes no memory from the heap, keeps nothing from one call to the next and has no global state, so any
  * number of threads may call it at once, each with its own area. It always returns. Its working tables are on the
- * stack of the calling thread and take less than 32 KB of it (32,472 bytes measured on x86-64). In a program that binds
+ * stack of the calling thread and take less than 32 KB of it (about 31 KB measured on x86-64). In a program that binds
  * the C library lazily, the dynamic linker takes about 3 KB more within the first call.
  */
 uint32_t barrierose_forecast(const uint8_t *snapshot, size_t snapshot_len, uint32_t prefix,
