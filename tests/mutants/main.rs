@@ -1,6 +1,7 @@
 //! Lists mutants of the proved code: mutants SEED NUMBER FILE.. prints so many small edits, each of one line (or of two
 //! that follow each other) in the body of one function, as file, line, function, kind and the new text, between tabs.
-//! The same seed and files give the same list.
+//! Every function has its turn before one has a second. The seed and a function's own text say in which order its edits
+//! come, so that a change elsewhere does not exchange them.
 
 use std::collections::{HashMap, HashSet};
 
@@ -12,6 +13,7 @@ struct Mutant {
     function: String,
     kind: &'static str,
     text: String,
+    rank: u64,
 }
 
 /// The body of a function: its lines, and the types of its parameters by name.
@@ -22,14 +24,14 @@ struct Body<'a> {
     types: HashMap<String, String>,
 }
 
-/// A generator of numbers, the same for the same seed.
-struct Seeded(u64);
-
-impl Seeded {
-    fn below(&mut self, n: usize) -> usize {
-        self.0 = self.0.wrapping_mul(6_364_136_223_846_793_005).wrapping_add(1_442_695_040_888_963_407);
-        ((self.0 >> 33) % n as u64) as usize
+/// A number that looks like chance, the same for the same seed and words (FNV-1a, its bits mixed once more).
+fn chance(seed: u64, words: &[&str]) -> u64 {
+    let mut hash = 0xcbf2_9ce4_8422_2325 ^ seed.wrapping_mul(0x9e37_79b9_7f4a_7c15);
+    for byte in words.iter().flat_map(|word| word.bytes().chain([0])) {
+        hash = (hash ^ u64::from(byte)).wrapping_mul(0x0100_0000_01b3);
     }
+    hash = (hash ^ (hash >> 31)).wrapping_mul(0x94d0_49bb_1331_11eb);
+    hash ^ (hash >> 29)
 }
 
 fn main() {
@@ -38,20 +40,19 @@ fn main() {
         eprintln!("usage: mutants SEED NUMBER FILE..");
         std::process::exit(1);
     };
-    let mut seeded = Seeded(seed.parse().expect("a number as seed"));
+    let seed = seed.parse().expect("a number as seed");
     let mut all = Vec::new();
     for file in files {
         let text = std::fs::read_to_string(file).unwrap_or_else(|fault| panic!("{file}: {fault}"));
         for body in bodies(&text) {
-            edits(file, &body, &mut seeded, &mut all);
+            let mut edits = edits(file, &body, seed);
+            edits.sort_by_key(|edit| edit.rank);
+            all.extend(edits.into_iter().enumerate());
         }
     }
-    for _ in 0..number.parse().expect("a number of mutants") {
-        if all.is_empty() {
-            break;
-        }
-        let at = seeded.below(all.len());
-        let Mutant { file, line, lines, function, kind, text } = all.swap_remove(at);
+    all.sort_by_key(|(turn, edit)| (*turn, edit.rank));
+    for (_, edit) in all.iter().take(number.parse().expect("a number of mutants")) {
+        let Mutant { file, line, lines, function, kind, text, .. } = edit;
         println!("{file}\t{line}\t{lines}\t{function}\t{kind}\t{text}");
     }
 }
@@ -105,15 +106,17 @@ fn words(line: &str) -> Vec<(usize, &str)> {
     found
 }
 
-fn edits(file: &str, body: &Body, seeded: &mut Seeded, all: &mut Vec<Mutant>) {
+fn edits(file: &str, body: &Body, seed: u64) -> Vec<Mutant> {
     const OPERATORS: [(&str, &str); 8] = [
         (" < ", " <= "), (" <= ", " < "), (" == ", " != "), (" != ", " == "),
         (" + ", " - "), (" - ", " + "), (" & ", " | "), (" | ", " & "),
     ];
+    let mut all = Vec::new();
     for (at, line) in body.lines.iter().enumerate() {
         let mut add = |lines, kind, text: String| {
+            let rank = chance(seed, &[file, &body.name, &at.to_string(), kind, &text]);
             let (file, function) = (file.to_string(), body.name.clone());
-            all.push(Mutant { file, line: body.first + at + 1, lines, function, kind, text });
+            all.push(Mutant { file, line: body.first + at + 1, lines, function, kind, text, rank });
         };
         if line.trim_start().starts_with("//") {
             continue;
@@ -132,7 +135,7 @@ fn edits(file: &str, body: &Body, seeded: &mut Seeded, all: &mut Vec<Mutant>) {
                 body.types.iter().filter(|(name, other)| *other == of && *name != word).map(|(name, _)| name).collect();
             others.sort();
             if !others.is_empty() {
-                let other = others[seeded.below(others.len())];
+                let other = others[(chance(seed, &[file, &body.name, line, word]) % others.len() as u64) as usize];
                 add(1, "operand", format!("{}{other}{}", &line[..from], &line[from + word.len()..]));
             }
         }
@@ -148,4 +151,5 @@ fn edits(file: &str, body: &Body, seeded: &mut Seeded, all: &mut Vec<Mutant>) {
             add(1, "dropped", String::new());
         }
     }
+    all
 }

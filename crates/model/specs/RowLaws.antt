@@ -204,6 +204,13 @@ module _ (t u : ℕ → Bool) where
   some-agree [] h = refl
   some-agree (p ∷ rows) h = rw (h p (here refl), some-agree rows (λ q m. h q (there m)))
 
+pub in-append : {q : ℕ} (a b : List ℕ) → In q (a ++ b) → In q a ⊎ In q b
+in-append [] b m = inr m
+in-append (p ∷ a) b m = elim (in-cases m) [
+  | inl e ↦ inl (here e)
+  | inr n ↦ elim (in-append a b n) [ inl k ↦ inl (there k) | inr k ↦ inr k ]
+]
+
 -- what filters leave of a list
 pub record Filtered (rows whole : List ℕ) : Type 0 where
   pub test : ℕ → Bool

@@ -10,7 +10,7 @@ use lib.ListN.{length, getD, take, drop}
 use lib.Seq.{drop-cons}
 use borrow.Author.Tests.{eqb-true, eqb-false, leb-true, leb-false, eq-eqb, ne-eqb, lt-ltb, le-leb, lt-leb}
 use Rattle.model.specs.Rows.{keep, some, count, span, column}
-use Rattle.model.specs.RowLaws.{by, In, here, there, nowhere, in-cases, empty-of, in-keep, keep-in, keep-keep, keep-all, keep-append, some-kept, Agree, keep-agree, some-agree, count-all, count-length, in-span, table-same}
+use Rattle.model.specs.RowLaws.{by, In, here, there, nowhere, in-cases, empty-of, in-append, in-keep, keep-in, keep-keep, keep-all, keep-append, some-kept, Agree, keep-agree, some-agree, count-all, count-length, in-span, table-same}
 use Rattle.model.specs.Contest.{Contest, leastOr, end, passed, firstFree, refine}
 use Rattle.model.specs.LeastLaws.{leastOr-past, leastOr-le, le-leastOr}
 use Rattle.model.specs.OrderLaws.{Ordered, ordered-first, ordered-later}
@@ -252,13 +252,6 @@ module _ (f : ℕ → ℕ) where
 pub first-agree : (t u : ℕ → Bool) (rows : List ℕ) → Agree t u rows → firstPlace t rows ≡ firstPlace u rows
 first-agree t u [] h = refl
 first-agree t u (q ∷ rows) h = ap₂ (λ (b : Bool) (n : ℕ). cond b 0 (suc n)) (h q (here refl)) (first-agree t u rows (λ z m. h z (there m)))
-
-in-append : {q : ℕ} (a b : List ℕ) → In q (a ++ b) → In q a ⊎ In q b
-in-append [] b m = inr m
-in-append (p ∷ a) b m = elim (in-cases m) [
-  | inl e ↦ inl (here e)
-  | inr n ↦ elim (in-append a b n) [ inl k ↦ inl (there k) | inr k ↦ inr k ]
-]
 
 take-in : {q : ℕ} (n : ℕ) (rows : List ℕ) → In q (take n rows) → In q rows
 take-in zero rows m = absurd (nowhere m)
