@@ -26,7 +26,8 @@ use Rattle.scan.specs.Scan.{told}
 use Rattle.reader.specs.Read.{readAnswer, readTables}
 use Rattle.reader.specs.ReadLaws.{no-room, was-accepted, tables-left}
 use Rattle.tables.specs.Judging.{Decides, Room as Roomy}
-use Rattle.tables.specs.Theorems.{has-room, room-enough, held-one}
+use Rattle.snapshot.specs.RoomLaws.{has-room, room-enough}
+use Rattle.tables.specs.Theorems.{held-one}
 use Rattle.tables.specs.FilledLaws.{filled-held, filled-room}
 use Rattle.writer.specs.declared.Write.{Write}
 use Rattle.writer.specs.declared.Write.the-variants as write

@@ -12,7 +12,7 @@ use Rattle.snapshot.specs.Limits.{mostRouters, stride, roomDistances, mostPrefi
 use Rattle.snapshot.specs.Records.{prefixForm, routeForm, size, valuesAt}
 use Rattle.snapshot.specs.Format.{Prefix, pairsBefore}
 use Rattle.snapshot.specs.Reading.{routeOf}
-use Rattle.snapshot.specs.Tables.{Columns, Tables, used, putRoutes, allRoutes}
+use Rattle.snapshot.specs.Tables.{Columns, Tables, Wide, used, putRoutes, allRoutes}
 
 -- the ids of the first n routers
 abbrev pub idsIn : List ℕ → ℕ → List ℕ
@@ -76,18 +76,6 @@ putPrefixes t ps = record {
   rows = putRoutes (t .rows) 0 (allRoutes ps);
 }
 
--- each column has room for so many rows
-pub record Wide (n : ℕ) (c : Columns) : Type 0 where
-  pub router : n ≤ length (c .router)
-  pub asn : n ≤ length (c .asn)
-  pub preference : n ≤ length (c .preference)
-  pub path : n ≤ length (c .path)
-  pub origin : n ≤ length (c .origin)
-  pub mark : n ≤ length (c .mark)
-  pub med : n ≤ length (c .med)
-  pub nid : n ≤ length (c .nid)
-  pub peer : n ≤ length (c .peer)
-
 -- the prefix columns have room for so many prefixes, and the route columns for the most routes
 pub record WideLists (n : ℕ) (t : Lists) : Type 0 where
   pub address : n ≤ length (t .address)
@@ -107,9 +95,3 @@ filledFrom bs n m t =
       routes = ps .routes;
       rows = ps .rows;
     }
-
--- every table has room for its limit
-pub record WideTables (t : Tables) : Type 0 where
-  pub ids : mostRouters ≤ length (t .ids)
-  pub distances : roomDistances ≤ length (t .distances)
-  pub rest : WideLists mostPrefixes (lists (t .address) (t .bits) (t .routes) (t .rows))

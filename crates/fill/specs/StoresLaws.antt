@@ -21,8 +21,8 @@ use Rattle.snapshot.specs.Records.{prefixForm, routeForm, valuesAt}
 use Rattle.snapshot.specs.Format.{Prefix, routesIn}
 use Rattle.snapshot.specs.ChecksLaws.{length-snoc, routesIn-append}
 use Rattle.snapshot.specs.Reading.{routeOf}
-use Rattle.snapshot.specs.Tables.{Columns, Tables, tables, used, putRoutes, allRoutes}
-use Rattle.fill.specs.Fill.{idsIn, distanceIn, entryIn, behindDistances, filledFrom, isRoute, routesFrom, prefixWith, prefixesFrom, Lists, lists, putPrefixes, Wide, WideLists}
+use Rattle.snapshot.specs.Tables.{Columns, Tables, tables, used, putRoutes, allRoutes, Wide}
+use Rattle.fill.specs.Fill.{idsIn, distanceIn, entryIn, behindDistances, filledFrom, isRoute, routesFrom, prefixWith, prefixesFrom, Lists, lists, putPrefixes, WideLists}
 
 -- ---- lists that are stored from a place on
 

@@ -10,7 +10,7 @@ ghost use Rattle.model.specs.Rows.{table};
 ghost use Rattle.model.specs.Lent.{was, is};
 ghost use Rattle.snapshot.specs.Limits.{mostRouters, roomDistances, mostPrefixes, mostRoutes};
 ghost use Rattle.snapshot.specs.Plain.{routeIs};
-ghost use Rattle.snapshot.specs.Tables.{columns, tables, putRoutes};
+ghost use Rattle.snapshot.specs.Tables.{columns, tables, putRoutes, Wide, Room};
 ghost use Rattle.fill.specs.Fill.{
   idsIn,
   distanceIn,
@@ -23,9 +23,7 @@ ghost use Rattle.fill.specs.Fill.{
   lists,
   putPrefixes,
   filledFrom,
-  Wide,
   WideLists,
-  WideTables,
 };
 use cursor::Network;
 use snapshot::Route;
@@ -273,7 +271,7 @@ pub fn fill_tables(
     nid: &mut [u32],
     peer: &mut [u32],
 )
-    requires { ⌜ Spans (now input) n × (prefixes ≤ mostPrefixes) × WideTables (tables (now ids) (now distances) (now address) (now bits) (now routes)
+    requires { ⌜ Spans (now input) n × (prefixes ≤ mostPrefixes) × Room (tables (now ids) (now distances) (now address) (now bits) (now routes)
         (columns (now router) (now asn) (now preference) (now path) (now origin) (now mark) (now med) (now nid) (now peer))) ⌝ }
     ensures { λ _. ⌜ tables (is ids) (is distances) (is address) (is bits) (is routes) (columns (is router) (is asn) (is preference) (is path) (is origin) (is mark) (is med) (is nid) (is peer))
         ≡ filledFrom (was input) n prefixes (tables (was ids) (was distances) (was address) (was bits) (was routes)

@@ -119,7 +119,7 @@ module _ {bs : List ℕ} {p : ℕ} {area : List ℕ} (enough : areaBytes ≤ len
   pub answers-given : {d : Differing} {early late after : List ℕ} → Forecast bs p d early late
       → after ≡ sets area 0 (each (routerBytes early late) (span 0 (length early))) → Answers bs p area (d .number) after
   answers-given {early = early} {late = late} f e =
-      subst₂ (Answers bs p area) (sym (f .number))
+      subst₂ (Answers bs p area) (sym (ap (λ (x : Differing). x .number) (f .differs)))
       (sym (e ∙ ap (λ (n : ℕ). sets area 0 (each (routerBytes early late) (span 0 n))) (f .between .early-stable .size)))
       (given enough (f .snapshot) (f .read) (f .below) early late (f .between))
 

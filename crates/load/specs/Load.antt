@@ -9,14 +9,15 @@ use lib.Dec.{leb}
 use Rattle.model.specs.Rows.{table}
 use Rattle.model.specs.Decision.{Route}
 use Rattle.model.specs.Columns as decided
-use Rattle.model.specs.Stability.{Between, differing}
+use Rattle.model.specs.Stability.{Between}
 use Rattle.snapshot.specs.Limits.{mostRouters, roomDistances, mostInPrefix}
 use Rattle.snapshot.specs.Records.{prefixForm, routeForm, size}
 use Rattle.snapshot.specs.Format.{Snapshot, Valid, encode}
 use Rattle.snapshot.specs.Reading.{accepted, reading}
-use Rattle.snapshot.specs.Tables.{Columns, putRoutes, mesh}
-use Rattle.fill.specs.Fill.{idsIn, entryIn, behindDistances, routesFrom, Wide}
+use Rattle.snapshot.specs.Tables.{Columns, putRoutes, mesh, Wide}
+use Rattle.fill.specs.Fill.{idsIn, entryIn, behindDistances, routesFrom}
 use Rattle.outlook.specs.declared.Differing.{Differing}
+use Rattle.outlook.specs.Outlook.{differingOf}
 
 -- the place behind the routes that stand from a place on
 abbrev pub behindRoutes : List ℕ → ℕ → ℕ
@@ -62,10 +63,10 @@ front rows c = decided.columns
     (take rows (c .router)) (take rows (c .asn)) (take rows (c .preference)) (take rows (c .path))
     (take rows (c .origin)) (take rows (c .med)) (take rows (c .nid)) (take rows (c .peer))
 
--- the early and the late rows of the prefix of a number of the snapshot in the bytes, and the number of routers that differ
+-- the early and the late rows of the prefix of a number of the snapshot in the bytes, and the routers that differ
 pub record Forecast (bs : List ℕ) (p : ℕ) (d : Differing) (early late : List ℕ) : Type 0 where
   pub snapshot : Snapshot
   pub read : reading bs ≡ accepted snapshot
   pub below : p < length (snapshot .prefixes)
   pub between : Between (mesh snapshot p) early late
-  pub number : d .number ≡ length (differing (mesh snapshot p) early late)
+  pub differs : d ≡ differingOf (mesh snapshot p) early late

@@ -12,21 +12,20 @@ use Rattle.model.specs.Rows.{table}
 use Rattle.model.specs.Decision.{Route}
 use Rattle.model.specs.Columns as decided
 use Rattle.model.specs.Columns.{lentMesh, Placed}
-use Rattle.model.specs.Stability.{Between, differing}
+use Rattle.model.specs.Stability.{Between}
 use Rattle.snapshot.specs.Limits.{mostInPrefix, mostRoutes}
 use Rattle.snapshot.specs.Records.{endForm, written}
 use Rattle.snapshot.specs.Format.{Prefix, Snapshot, Each, GoodPrefix, Valid, records, prefixesBytes, encode}
-use Rattle.snapshot.specs.Tables.{Columns, Tables, columns, tables, filled, putRoutes, routesOf, countsOf, Held, mesh}
-use Rattle.fill.specs.Fill.{idsIn, entryIn, behindDistances, routesFrom, Spans, Wide}
+use Rattle.snapshot.specs.Tables.{Columns, Tables, columns, tables, filled, putRoutes, routesOf, countsOf, Held, mesh, Room, Wide}
+use Rattle.fill.specs.Fill.{idsIn, entryIn, behindDistances, routesFrom, Spans}
 use Rattle.fill.specs.FillLaws.{Stands, prefix-stands, behind-distances, spans, fills}
 use Rattle.fill.specs.StoresLaws.{Alike, alike-put, wide-alike}
-use Rattle.tables.specs.Judging.{Room}
 use Rattle.tables.specs.ListsLaws.{map-at}
 use Rattle.tables.specs.HeldLaws.{no-prefix}
 use Rattle.tables.specs.FilledLaws.{filled-held, filled-room}
 use Rattle.tables.specs.Theorems.{routes-few}
 use Rattle.outlook.specs.declared.Differing.{Differing}
-use Rattle.outlook.specs.Outlook.{Decided}
+use Rattle.outlook.specs.Outlook.{differingOf, Decided}
 use Rattle.outlook.specs.OutlookLaws.{columnsOf, lent, lent-between, lent-placed}
 use Rattle.load.specs.Load.{behindRoutes, placeFrom, routesPlace, askedRoutes, Asked, Lends, Loaded, front, Forecast}
 
@@ -161,11 +160,11 @@ module _ {s : Snapshot} (valid : Valid s) {p : ℕ} (below : p < length (s .pref
     placed = from-after Placed (lent-placed enough-after valid held p below)
 
     decides : {d : Differing} {early late : List ℕ} → Decided (lentMesh n ids distances (front rows c)) d early late
-        → Between (mesh s p) early late × (d .number ≡ length (differing (mesh s p) early late))
+        → Between (mesh s p) early late × (d ≡ differingOf (mesh s p) early late)
     decides {d} {early} {late} h =
         let k : Decided (lent enough-after valid held p below) d early late = to-after (λ m x y t. Decided (lentMesh m x y t) d early late) h in (
           subst₂ (λ (x y : List ℕ). Between (mesh s p) x y) (sym (k .early-rows)) (sym (k .late-rows)) (lent-between enough-after valid held p below),
-          ap (λ (x : Differing). x .number) (k .differs) ∙ ap₂ (λ (x y : List ℕ). length (differing (mesh s p) x y)) (sym (k .early-rows)) (sym (k .late-rows)),
+          k .differs ∙ ap₂ (differingOf (mesh s p)) (sym (k .early-rows)) (sym (k .late-rows)),
         )
 
 -- ---- for the code
@@ -213,5 +212,5 @@ module _ {bs : List ℕ} {n p : ℕ} (asked : Asked bs n p) where
 
     pub loaded-forecast : {d : Differing} {early late : List ℕ} → Decided (lentMesh n ids distances (front rows c)) d early late → Forecast bs p d early late
     loaded-forecast {d} {early} {late} h =
-        let (between, number) = decides (asked .valid) (asked .below) room there (subst (λ (m : ℕ). Decided (lentMesh m ids distances (front rows c)) d early late) (asked .routers) h) in
-        record { snapshot = asked .snapshot; read = asked .read; below = asked .below; between = between; number = number }
+        let (between, differs) = decides (asked .valid) (asked .below) room there (subst (λ (m : ℕ). Decided (lentMesh m ids distances (front rows c)) d early late) (asked .routers) h) in
+        record { snapshot = asked .snapshot; read = asked .read; below = asked .below; between = between; differs = differs }

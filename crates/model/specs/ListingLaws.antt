@@ -10,7 +10,7 @@ use lib.ListN.{length, getD, take, drop, length-append}
 use lib.Seq.{take-at, drop-at}
 use borrow.Author.Tests.{eqb-true, eqb-false, eq-eqb, ne-eqb, lt-ltb, le-ltb, ltb-true, ltb-false}
 use Rattle.model.specs.NumberLaws.{le-or-lt}
-use Rattle.model.specs.Rows.{keep, some, count, span, table, column}
+use Rattle.model.specs.Rows.{keep, some, count, span, table, column, start}
 use Rattle.model.specs.Decision.{Mesh, none, all, ownOf, metric, beats, beatsBy, unbeatenBy, preferred}
 use Rattle.model.specs.DecisionLaws.{not-past, owned}
 use Rattle.model.specs.Stability.{Sound, before, contenders, standing}
@@ -21,7 +21,7 @@ use Rattle.model.specs.Contest.{leastOr, times, end, repeat, bottom, top
 use Rattle.model.specs.EarlyLateLaws.{contenders-items, place-standing}
 use Rattle.model.specs.Lent.{Inside}
 use Rattle.model.specs.Columns.{Columns, lentMesh, routesMesh, Fits, mostRows}
-use Rattle.model.specs.Listing.{groupBy, orderBy, arrangedOn, arrangedBy, startOf, ownRows, unbeatenRuns, preferredIn, countsIn, contendersIn, gathered, groupsIn, restIn, roundBy, startBy, settledBy, standsAt, Ready}
+use Rattle.model.specs.Listing.{groupBy, orderBy, arrangedOn, arrangedBy, ownRows, unbeatenRuns, preferredIn, countsIn, contendersIn, gathered, groupsIn, restIn, roundBy, startBy, settledBy, standsAt, Ready}
 use Rattle.model.specs.RowLaws.{by, or-cases, or-left, or-right, and-left, and-right, and-both, eq→eqb, In, here, there, nowhere, keep-in, keep-keep, keep-append, some-kept, count-kept, count-length, count-le, count-all}
 use Rattle.model.specs.RowLaws.{Agree, keep-agree, Filtered, filtered, filtered-keep, filtered-self, within, length-span, table-at, table-length, table-same}
 use Rattle.model.specs.ListLaws.{inside-part, inside-span, span-at}
@@ -226,8 +226,8 @@ module _ (M : Mesh) (sound : Sound M) where
     ends-at : (r : ℕ) → r < M .routers → column ends r ≡ count (ownOf M r) order
     ends-at r l = ap (λ (xs : List ℕ). column xs r) d ∙ table-at (λ r. count (ownOf M r) order) 0 (M .routers) r l
 
-    start-at : (r : ℕ) → r ≤ M .routers → startOf ends r ≡ length (runsBelow (M .router) order r)
-    unfolding startOf
+    start-at : (r : ℕ) → r ≤ M .routers → start ends r ≡ length (runsBelow (M .router) order r)
+    unfolding start
     start-at zero l = refl
     start-at (suc r) l = omega (
       arith,
@@ -237,10 +237,10 @@ module _ (M : Mesh) (sound : Sound M) where
       length-append (runsBelow (M .router) order r) (keep (ownOf M r) order),
     )
 
-    from-start : (r : ℕ) → r ≤ M .routers → drop (startOf ends r) order ≡ keep (λ q. leb r (M .router q)) order
+    from-start : (r : ℕ) → r ≤ M .routers → drop (start ends r) order ≡ keep (λ q. leb r (M .router q)) order
     from-start r l =
-        ap (drop (startOf ends r)) (runs-split (M .router) (inOrder M) (order-rises M) r order ordered)
-        ∙ drop-at (runsBelow (M .router) order r) (keep (λ q. leb r (M .router q)) order) (startOf ends r) (sym (start-at r l))
+        ap (drop (start ends r)) (runs-split (M .router) (inOrder M) (order-rises M) r order ordered)
+        ∙ drop-at (runsBelow (M .router) order r) (keep (λ q. leb r (M .router q)) order) (start ends r) (sym (start-at r l))
 
     -- the rows of a router are one run of the list
     own-run : (r : ℕ) → r < M .routers → ownRows order ends r ≡ keep (ownOf M r) order
@@ -249,8 +249,8 @@ module _ (M : Mesh) (sound : Sound M) where
         ∙ take-at (keep (ownOf M r) order) (keep (λ q. leb (suc r) (M .router q)) order) (column ends r) (sym (ends-at r l ∙ count-length (ownOf M r) order))
 
     -- all of them are counted
-    order-counted : startOf ends (length ends) ≡ length order
-    order-counted = ap (startOf ends) ends-length ∙ start-at (M .routers) (omega arith) ∙ ap length (sym order-whole)
+    order-counted : start ends (length ends) ≡ length order
+    order-counted = ap (start ends) ends-length ∙ start-at (M .routers) (omega arith) ∙ ap length (sym order-whole)
 
   -- of the preferred rows in order, those of each router that no other of that router beats: the contenders in order
   module _ (rows order counts : List ℕ) (e : rows ≡ arrangedBy (inOrder M) (preferred M (all M))) (d : counts ≡ table (M .routers) (λ r. count (ownOf M r) rows))
@@ -378,7 +378,7 @@ module _ (routers : ℕ) (t : Columns) (f : Fits routers t) where
   }
 
   -- the preferred rows are counted
-  pub preferred-counted : (counts : List ℕ) → counts ≡ countsIn (t .router) routers (preferredIn routers t) → startOf counts (length counts) ≡ length (preferredIn routers t)
+  pub preferred-counted : (counts : List ℕ) → counts ≡ countsIn (t .router) routers (preferredIn routers t) → start counts (length counts) ≡ length (preferredIn routers t)
   preferred-counted counts e =
       order-counted M sound (preferred M (all M)) (preferredIn routers t) counts (preferred-part M) (arranged-same M sound (preferred M (all M))) (arranged-in-order M sound (preferred M (all M)) (preferred-part M)) e
 
@@ -411,7 +411,7 @@ module _ (routers : ℕ) (t : Columns) (f : Fits routers t) where
   ordered-here : Ordered (inOrder M) order
   ordered-here = contenders-ordered M sound (preferredIn routers t) order (countsIn (t .router) routers (preferredIn routers t)) refl refl refl
 
-  whole-here : startOf ends (length ends) ≡ length order
+  whole-here : start ends (length ends) ≡ length order
   whole-here = order-counted M sound (contending M) order ends (contending-part M) same-here ordered-here refl
 
   ends-here : length ends ≡ routers

@@ -10,17 +10,17 @@ use mathlib.Core.List.{List, _∷_, _++_}
 use lib.Dec.{eqb, ltb}
 use lib.ListN.{length, take, drop, length-take, length-drop}
 use lib.Seq.{getD-take, getD-drop, length-take-le}
-use Rattle.model.specs.Rows.{keep, some, span, table, column}
-use Rattle.model.specs.RowLaws.{by, here, keep-append, in-span, table-same}
+use Rattle.model.specs.Rows.{keep, some, span, table, column, start}
+use Rattle.model.specs.RowLaws.{by, here, keep-append, in-span, table-same, start-first, start-next, start-within}
 use Rattle.model.specs.Decision.{beatsBy, unbeatenBy}
 use Rattle.model.specs.Contest.{times, leastOr}
 use Rattle.model.specs.ContestLaws.{times-stays}
 use Rattle.model.specs.LeastLaws.{leastOr-append}
 use Rattle.model.specs.Columns.{mostRows, pastKeys}
-use Rattle.model.specs.Listing.{startOf, ownRows, unbeatenRuns, ownPlaces, passedRows, firstPlace, roundBy, Ready}
+use Rattle.model.specs.Listing.{ownRows, unbeatenRuns, ownPlaces, passedRows, firstPlace, roundBy, Ready}
 use Rattle.model.specs.Lent.{Front}
 use Rattle.model.specs.ListLaws.{front-is, front-long, front-wider, front-append, keep-short}
-use Rattle.model.specs.RunLaws.{start-below, first-agree}
+use Rattle.model.specs.RunLaws.{first-agree}
 use Rattle.model.specs.ListingLaws.{beaten-low}
 
 -- so many steps are done, and x is where they led
@@ -49,27 +49,22 @@ module _ {step : List ℕ → List ℕ} {n : ℕ} {x₀ : List ℕ} where
 
 -- ---- the rows of each router in one list
 
-start-next : (ends : List ℕ) (r : ℕ) → startOf ends (suc r) ≡ startOf ends r + column ends r
-unfolding startOf
-start-next ends r = refl
-
 -- a loop over routers, at r: so many rows are of the routers before it, of n in all
 pub record Turn (n : ℕ) (ends : List ℕ) (r from : ℕ) : Type 0 where
   pub within : r ≤ length ends
-  pub whole : startOf ends (length ends) ≡ n
-  pub here : from ≡ startOf ends r
+  pub whole : start ends (length ends) ≡ n
+  pub here : from ≡ start ends r
 
 module _ {n : ℕ} {ends : List ℕ} where
-  pub turn : startOf ends (length ends) ≡ n → Turn n ends 0 0
-  unfolding startOf
-  turn e = record { within = zero-le; whole = e; here = refl }
+  pub turn : start ends (length ends) ≡ n → Turn n ends 0 0
+  turn e = record { within = zero-le; whole = e; here = sym (start-first ends) }
 
   module _ {r from : ℕ} (t : Turn n ends r from) where
     pub turn-next : r < length ends → Turn n ends (r + 1) (from + column ends r)
-    turn-next l = record { within = omega arith; whole = t .whole; here = rw add-one (ap (λ (k : ℕ). k + column ends r) (t .here) ∙ sym (start-next ends r)) }
+    turn-next l = record { within = omega arith; whole = t .whole; here = ap (λ (k : ℕ). k + column ends r) (t .here) ∙ sym (start-next ends r) }
 
     pub turn-room : r < length ends → from + column ends r ≤ n
-    turn-room l = omega (arith, t .here, t .whole, start-below ends r (length ends) l)
+    turn-room l = omega (arith, t .here, t .whole, start-within ends r (length ends) l)
 
     -- the slice of a list of rows that is the router's own
     pub turn-own : (order : List ℕ) → take (from + column ends r - from) (drop from order) ≡ ownRows order ends r
@@ -85,7 +80,7 @@ pub record Packing (beat : ℕ → ℕ → Bool) (rows counts order₀ : List �
   pub front : Front m order (unbeatenRuns beat (ownRows rows counts) r)
 
 module _ {beat : ℕ → ℕ → Bool} {rows counts order₀ : List ℕ} where
-  pub packing : startOf counts (length counts) ≡ length rows → Packing beat rows counts order₀ 0 0 0 order₀
+  pub packing : start counts (length counts) ≡ length rows → Packing beat rows counts order₀ 0 0 0 order₀
   unfolding unbeatenRuns
   packing e = record { at = turn e; few = zero-le; long = refl; front = record { few = zero-le; are = refl } }
 
@@ -105,7 +100,7 @@ module _ {beat : ℕ → ℕ → Bool} {rows counts order₀ : List ℕ} where
             front-long g,
             ap length (g .are),
             keep-short (λ q. not (some (λ p. beat p q) (ownRows rows counts r))) (ownRows rows counts r),
-            length-take (column counts r) (drop (startOf counts r) rows),
+            length-take (column counts r) (drop (start counts r) rows),
           );
           long = e ∙ s .long;
           front = rw add-one (front-append (s .front) (front-wider rest g));
@@ -176,7 +171,7 @@ pub record Passing (group key ends state low₀ : List ℕ) (r from : ℕ) (low 
   pub done : (k : ℕ) → column low k ≡ leastOr (column low₀ k) (column key) (keep (λ q. eqb (column group q) k) (passedRows (ownPlaces ends) state r))
 
 module _ {group key ends state low₀ : List ℕ} where
-  pub passing : startOf ends (length ends) ≡ length group → Passing group key ends state low₀ 0 0 low₀
+  pub passing : start ends (length ends) ≡ length group → Passing group key ends state low₀ 0 0 low₀
   unfolding passedRows
   passing e = record { at = turn e; long = refl; done = λ k. refl }
 
@@ -204,7 +199,7 @@ module _ {group key ends state low₀ : List ℕ} where
     }
       where
         part-is : span from n ≡ take (suc (column state r)) (ownPlaces ends r)
-        part-is = ap₂ span (s .at .here) e ∙ sym (take-span (suc (column state r)) (startOf ends r) (column ends r))
+        part-is = ap₂ span (s .at .here) e ∙ sym (take-span (suc (column state r)) (start ends r) (column ends r))
 
 -- the first place of a router's part that passes is the first of its places
 pub slice-first : {n r from : ℕ} {ends : List ℕ} (group med low : List ℕ) → Turn n ends r from → from + column ends r ≤ length group
@@ -232,8 +227,8 @@ round-low {group} {med} {ends} ready state low high lows =
     (λ r l. first-agree spared free (ownPlaces ends r) (λ q m.
     ap not (ap (λ (k : ℕ). ltb k (column med q)) (lows (column group q) (ready .grouped q (omega (
       arith,
-      in-span (startOf ends r) (column ends r) m,
-      start-below ends r (length ends) l,
+      in-span (start ends r) (column ends r) m,
+      start-within ends r (length ends) l,
       ready .whole,
     ))))
     ∙ sym (beaten-low (column group) (column med) pastKeys q (high q) seen))))

@@ -9,8 +9,10 @@ use mathlib.Core.List.{List, [], _∷_, _++_, map}
 use lib.Dec.{T, eqb, eqb→eq, eqb-refl, T-not, not-T}
 use lib.ListN.{length, getD, length-map, List·getD-eq-default}
 use lib.Seq.{ext-getD}
+use native.Mathlib.Numerals.{add-one}
+use borrow.Author.Tests.{eqb-true, eqb-false}
 use Rattle.model.specs.NumberLaws.{le-or-lt}
-use Rattle.model.specs.Rows.{keep, some, count, span, table}
+use Rattle.model.specs.Rows.{keep, some, count, span, table, column, start}
 
 -- ---- tests
 
@@ -418,3 +420,21 @@ module _ (key : ℕ → ℕ) where
   pub tallies : (rows : List ℕ) (n : ℕ) → total (table n (tally rows)) ≤ length rows
   tallies [] n = none 0 n
   tallies (q ∷ rows) n = omega (arith, tally-in q rows 0 n, tallies rows n)
+
+-- ---- where the parts of a list begin
+
+pub start-first : (lengths : List ℕ) → start lengths 0 ≡ 0
+unfolding start
+start-first lengths = refl
+
+pub start-next : (lengths : List ℕ) (r : ℕ) → start lengths (r + 1) ≡ start lengths r + column lengths r
+unfolding start
+start-next lengths r = rw add-one
+
+-- a part ends before those behind it
+pub start-within : (lengths : List ℕ) (r n : ℕ) → r < n → start lengths r + column lengths r ≤ start lengths n
+unfolding start
+start-within lengths r zero l = absurd (omega arith)
+start-within lengths r (suc n) l = by (eqb r n)
+    (λ e. let k = eqb-true r n e in rw k (omega arith))
+    (λ e. let h = start-within lengths r n (let k = eqb-false r n e in omega (arith, k)) in omega arith)

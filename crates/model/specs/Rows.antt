@@ -1,5 +1,5 @@
 -- Lists of rows, by tests that compute. A row is a number: the place of a route among the routes of its prefix, from 0.
-use Prim.Native.Nat.{ℕ, zero, suc, min, max}
+use Prim.Native.Nat.{ℕ, zero, suc, _+_, min, max}
 use mathlib.Core.Bool.{Bool, false, cond, _||_}
 use mathlib.Core.List.{List, [], _∷_, map}
 use lib.Dec.{eqb}
@@ -51,3 +51,8 @@ keepGreatest key rows = let high = greatest key rows in keep (λ q. eqb (key q) 
 -- the entries of a list as a function; 0 past its end
 abbrev pub column : List ℕ → ℕ → ℕ
 column xs q = getD xs q 0
+
+-- where part r begins in a list of parts, one after the other, that are so long: behind the parts below it
+unfoldable pub start : List ℕ → ℕ → ℕ
+start lengths zero = 0
+start lengths (suc r) = start lengths r + column lengths r

@@ -9,12 +9,12 @@ use lib.Dec.{T, eqb, ltb, leb, eqb→eq, leb→le}
 use lib.ListN.{length, getD, take, drop}
 use lib.Seq.{drop-cons}
 use borrow.Author.Tests.{eqb-true, eqb-false, leb-true, leb-false, eq-eqb, ne-eqb, lt-ltb, le-leb, lt-leb}
-use Rattle.model.specs.Rows.{keep, some, count, span, column}
-use Rattle.model.specs.RowLaws.{by, In, here, there, nowhere, in-cases, empty-of, in-append, in-keep, keep-in, keep-keep, keep-all, keep-append, some-kept, Agree, keep-agree, some-agree, count-all, count-length, in-span, table-same}
+use Rattle.model.specs.Rows.{keep, some, count, span, column, start}
+use Rattle.model.specs.RowLaws.{by, In, here, there, nowhere, in-cases, empty-of, in-append, in-keep, keep-in, keep-keep, keep-all, keep-append, some-kept, Agree, keep-agree, some-agree, count-all, count-length, in-span, table-same, start-within}
 use Rattle.model.specs.Contest.{Contest, leastOr, end, passed, firstFree, refine}
 use Rattle.model.specs.LeastLaws.{leastOr-past, leastOr-le, le-leastOr}
 use Rattle.model.specs.OrderLaws.{Ordered, ordered-first, ordered-later}
-use Rattle.model.specs.Listing.{startOf, ownRows, ownPlaces, passedRows, firstPlace, roundBy}
+use Rattle.model.specs.Listing.{ownRows, ownPlaces, passedRows, firstPlace, roundBy}
 
 -- ---- two lists with the same members
 
@@ -265,20 +265,13 @@ part-at rows from (suc n) l =
     ap (take (suc n)) (drop-cons rows from 0 (omega arith))
     ∙ ap (λ (xs : List ℕ). column rows from ∷ xs) (part-at rows (suc from) n (omega arith))
 
--- the rows of each router end before those of the next
-pub start-below : (ends : List ℕ) (r n : ℕ) → r < n → startOf ends r + column ends r ≤ startOf ends n
-unfolding startOf
-start-below ends r zero l = absurd (omega arith)
-start-below ends r (suc n) l = by (eqb r n)
-    (λ e. let k = eqb-true r n e in rw k (omega arith))
-    (λ e. let h = start-below ends r n (let k = eqb-false r n e in omega (arith, k)) in omega arith)
-
-module _ (order ends : List ℕ) (whole : startOf ends (length ends) ≡ length order) where
-  own-within : (r : ℕ) → r < length ends → startOf ends r + column ends r ≤ length order
-  own-within r l = omega (arith, start-below ends r (length ends) l, whole)
+-- the rows of each router stand within the list
+module _ (order ends : List ℕ) (whole : start ends (length ends) ≡ length order) where
+  own-within : (r : ℕ) → r < length ends → start ends r + column ends r ≤ length order
+  own-within r l = omega (arith, start-within ends r (length ends) l, whole)
 
   own-map : (r : ℕ) → r < length ends → ownRows order ends r ≡ map (column order) (ownPlaces ends r)
-  own-map r l = part-at order (startOf ends r) (column ends r) (own-within r l)
+  own-map r l = part-at order (start ends r) (column ends r) (own-within r l)
 
   passed-own : (x : List ℕ) (n : ℕ) → n ≤ length ends → passedRows (ownRows order ends) x n ≡ passedRows (λ r. map (column order) (ownPlaces ends r)) x n
   unfolding passedRows
@@ -290,13 +283,13 @@ module _ (order ends : List ℕ) (whole : startOf ends (length ends) ≡ length 
   passed-within x zero l q m = absurd (nowhere m)
   passed-within x (suc n) l q m = elim (in-append (passedRows (ownPlaces ends) x n) (take (suc (column x n)) (ownPlaces ends n)) m) [
     | inl k ↦ passed-within x n (omega arith) q k
-    | inr k ↦ omega (arith, in-span (startOf ends n) (column ends n) (take-in (suc (column x n)) (ownPlaces ends n) k), own-within n l)
+    | inr k ↦ omega (arith, in-span (start ends n) (column ends n) (take-in (suc (column x n)) (ownPlaces ends n) k), own-within n l)
   ]
 
   pub round-places : (beat beat′ : ℕ → ℕ → Bool) → ((p q : ℕ) → p < length order → q < length order → beat p q ≡ beat′ (column order p) (column order q))
       → (x : List ℕ) → roundBy beat (ownPlaces ends) (length ends) x ≡ roundBy beat′ (ownRows order ends) (length ends) x
   round-places beat beat′ agree x = table-same (λ r. firstPlace free (ownPlaces ends r)) (λ r. firstPlace free′ (ownRows order ends r)) (length ends) (λ r l.
-      first-agree free (λ q. free′ (column order q)) (ownPlaces ends r) (λ q m. free-is q (omega (arith, in-span (startOf ends r) (column ends r) m, own-within r l)))
+      first-agree free (λ q. free′ (column order q)) (ownPlaces ends r) (λ q m. free-is q (omega (arith, in-span (start ends r) (column ends r) m, own-within r l)))
       ∙ sym (first-map (column order) free′ (ownPlaces ends r))
       ∙ ap (firstPlace free′) (sym (own-map r l)))
     where

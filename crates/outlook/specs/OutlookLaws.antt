@@ -3,10 +3,10 @@ use Prim.Native.Nat.{ℕ, _+_, _-_, _≤_, _<_}
 use native.Mathlib.Omega.{arith}
 use mathlib.Core.Path.{_≡_, refl, sym, ap, ap₂, subst, _∙_, fun-ext}
 use mathlib.Core.Logic.{_↔_, inl, inr}
-use mathlib.Core.Bool.{Bool, true, false, true≢false, false≢true}
+use mathlib.Core.Bool.{Bool, true, false, _||_, not, true≢false, false≢true}
 use mathlib.Core.List.{List, _++_, map}
 use lib.ListN.{length, getD, drop, length-map, List·getD-eq-default}
-use lib.Dec.{eqb, ltb}
+use lib.Dec.{T, eqb, ltb}
 use borrow.Author.Tests.{ltb-false, eqb-true}
 use lib.Seq.{sets, sets-eq, getD-take}
 use lib.Count.{ones}
@@ -15,12 +15,13 @@ use Rattle.word.specs.WordLaws.{ones-word}
 use Rattle.snapshot.specs.declared.Counts.{Counts}
 use Rattle.snapshot.specs.Format.{Snapshot, Valid}
 use Rattle.snapshot.specs.Limits.{mostRouters, mostRoutes}
-use Rattle.snapshot.specs.Ranges.{anyOf}
-use Rattle.snapshot.specs.RangesLaws.{none-at, none-any}
-use Rattle.snapshot.specs.Tables.{Tables, Held, routesOf, mesh}
+use Rattle.snapshot.specs.Ranges.{anyOf, none}
+use Rattle.snapshot.specs.RangesLaws.{none-any}
+use Rattle.snapshot.specs.RoomLaws.{has-room}
+use Rattle.snapshot.specs.Tables.{Tables, short, Room, Held, routesOf, mesh}
 use Rattle.tables.specs.Theorems.{held-one, held-ids, held-distance, held-count, held-fits, held-column, routers-few, routes-few, absent-zero, sound}
-use Rattle.tables.specs.Judging.{Room, Holding, start}
-use Rattle.model.specs.Rows.{keep, span, table, column}
+use Rattle.tables.specs.Judging.{Holding}
+use Rattle.model.specs.Rows.{keep, span, table, column, start}
 use Rattle.model.specs.Decision.{Route, Mesh, metric, choice}
 use Rattle.model.specs.Stability.{Sound, Between, Only, available, differing}
 use Rattle.model.specs.Contest.{early, late, atPlace, holding, earliest, latest, contest}
@@ -36,38 +37,52 @@ use Rattle.outlook.specs.Outlook.{Forecasts, room, noSnapshot, noPrefix,
 
 -- ---- room
 
-module _ (t : Tables) (early late : List ℕ) (enough : anyOf (shortOf t early late) ≡ false) where
-  -- the k-th of the tables and areas has its limit
-  long : (k n most : ℕ) → getD (shortOf t early late) k false ≡ ltb n most → most ≤ n
-  long k n most e = ltb-false n most (sym e ∙ none-at (shortOf t early late) (none-any (shortOf t early late) enough) k)
+-- one of two tests behind another
+second-of : (a b c : Bool) → (b || c) ≡ true → ((a || b) || c) ≡ true
+second-of true b c e = refl
+second-of false b c e = e
 
-  pub has-room : Room t
-  has-room = record {
-    ids = long 0 _ _ refl;
-    distances = long 1 _ _ refl;
-    prefixes = record {
-      address = long 2 _ _ refl;
-      bits = long 3 _ _ refl;
-      routes = long 4 _ _ refl;
-      rows = record {
-        router = long 5 _ _ refl;
-        asn = long 6 _ _ refl;
-        preference = long 7 _ _ refl;
-        path = long 8 _ _ refl;
-        origin = long 9 _ _ refl;
-        mark = long 10 _ _ refl;
-        med = long 11 _ _ refl;
-        nid = long 12 _ _ refl;
-        peer = long 13 _ _ refl;
-      };
-    };
-  }
+first-of : (a b c : Bool) → T a → ((a || b) || c) ≡ true
+first-of true b c h = refl
+first-of false b c h = absurd h
 
-  pub early-room : mostRouters ≤ length early
-  early-room = long 14 _ _ refl
+none-of : (a b c : Bool) → T (not a) → (b || c) ≡ false → ((a || b) || c) ≡ false
+none-of true b c h e = absurd h
+none-of false b c h e = e
 
-  pub late-room : mostRouters ≤ length late
-  late-room = long 15 _ _ refl
+each-of : (a b c : Bool) → ((a || b) || c) ≡ false → (a ≡ false) × (b ≡ false) × (c ≡ false)
+each-of true b c e = absurd (true≢false e)
+each-of false true c e = absurd (true≢false e)
+each-of false false c e = (refl, refl, e)
+
+module _ (t : Tables) (early late : List ℕ) where
+  abbrev short-early : Bool
+  short-early = ltb (length early) mostRouters
+
+  abbrev short-late : Bool
+  short-late = ltb (length late) mostRouters
+
+  -- an area is short
+  pub area-short : (short-early || short-late) ≡ true → anyOf (shortOf t early late) ≡ true
+  area-short e = second-of (anyOf (short t)) short-early short-late e
+
+  -- a table is
+  pub table-short : T (anyOf (short t)) → anyOf (shortOf t early late) ≡ true
+  table-short h = first-of (anyOf (short t)) short-early short-late h
+
+  -- none is
+  pub none-short : (short-early || short-late) ≡ false → T (none (short t)) → anyOf (shortOf t early late) ≡ false
+  none-short e h = none-of (anyOf (short t)) short-early short-late h e
+
+  module _ (enough : anyOf (shortOf t early late) ≡ false) where
+    pub roomy : Room t
+    roomy = has-room t (none-any (short t) (each-of (anyOf (short t)) short-early short-late enough .0))
+
+    pub early-room : mostRouters ≤ length early
+    early-room = ltb-false _ _ (each-of (anyOf (short t)) short-early short-late enough .1)
+
+    pub late-room : mostRouters ≤ length late
+    late-room = ltb-false _ _ (each-of (anyOf (short t)) short-early short-late enough .2)
 
 -- ---- one answer
 
@@ -91,13 +106,13 @@ forecasts-one (noPrefix h s v i m) (room k) = absurd (true≢false (sym k ∙ h)
 forecasts-one (noPrefix h s v i m) (noSnapshot k n) = absurd (n s v i)
 forecasts-one (noPrefix h s v i m) (noPrefix k u w j o) = record { answer = refl; earlies = refl; lates = refl }
 forecasts-one {t} {p} {early} {late} (noPrefix h s v i m) (given k u w j o e l b) =
-    absurd (let same = ap (λ (x : Snapshot). length (x .prefixes)) (held-one (has-room t early late h) v i w j) in omega arith)
+    absurd (let same = ap (λ (x : Snapshot). length (x .prefixes)) (held-one (roomy t early late h) v i w j) in omega arith)
 forecasts-one (given h s v i m e l b) (room k) = absurd (true≢false (sym k ∙ h))
 forecasts-one (given h s v i m e l b) (noSnapshot k n) = absurd (n s v i)
 forecasts-one {t} {p} {early} {late} (given h s v i m e l b) (noPrefix k u w j o) =
-    absurd (let same = ap (λ (x : Snapshot). length (x .prefixes)) (held-one (has-room t early late h) v i w j) in omega arith)
+    absurd (let same = ap (λ (x : Snapshot). length (x .prefixes)) (held-one (roomy t early late h) v i w j) in omega arith)
 forecasts-one {t} {p} {early} {late} (given h s v i m e l b) (given k u w j o e′ l′ b′) =
-    let same = held-one (has-room t early late h) w j v i in
+    let same = held-one (roomy t early late h) w j v i in
     let there : Between (mesh s p) e′ l′ = subst (λ (x : Snapshot). Between (mesh x p) e′ l′) same b′ in
     let pair = pair-determined (mesh s p) (sound v p m) e l e′ l′ b there in
     record {

@@ -1,6 +1,7 @@
 // The forecast of one prefix over lent tables: each router's early and late row, and which routers differ.
 use refusal::Refusal;
 use snapshot::Counts;
+use tables::Verdict;
 ghost use mathlib.Core.Path.{_≡_};
 ghost use Prim.Native.Nat.{_-_, _≤_};
 ghost use lib.ListN.{length};
@@ -8,7 +9,7 @@ ghost use Rattle.model.specs.Columns.{columns, lentMesh, Placed};
 ghost use Rattle.model.specs.Lent.{was, is};
 ghost use Rattle.snapshot.specs.Limits.{mostRoutes};
 ghost use Rattle.snapshot.specs.Tables.{tables, columns as rowColumns};
-ghost use Rattle.tables.specs.Judging.{start};
+ghost use Rattle.model.specs.Rows.{start};
 ghost use Rattle.outlook.specs.Outlook.{cut, Decided, Part, Shown, Forecasts};
 
 // The routers whose early and late rows differ: bit r for router r, and how many there are.
@@ -136,26 +137,11 @@ pub fn forecast(
 ) -> Outlook
     ensures { λ r. ⌜ Forecasts counts (tables (was ids) (was distances) (was address) (was bits) (was routes) (rowColumns (was router) (was asn) (was preference) (was path) (was origin) (was mark) (was med) (was nid) (was peer))) prefix (was early) (was late) r (is early) (is late) ⌝ }
 {
-    if (ids.len() < 64)
-        | (distances.len() < 4096)
-        | (address.len() < 64)
-        | (bits.len() < 64)
-        | (routes.len() < 64)
-        | (router.len() < 1024)
-        | (asn.len() < 1024)
-        | (preference.len() < 1024)
-        | (path.len() < 1024)
-        | (origin.len() < 1024)
-        | (mark.len() < 1024)
-        | (med.len() < 1024)
-        | (nid.len() < 1024)
-        | (peer.len() < 1024)
-        | (early.len() < 64)
-        | (late.len() < 64)
-    {
+    let most = snapshot::MOST_ROUTERS as usize;
+    if (early.len() < most) | (late.len() < most) {
         return Outlook::Refused(Refusal::Room, 0);
     }
-    let good = tables::judge(
+    match tables::examine(
         counts,
         ids,
         distances,
@@ -171,32 +157,31 @@ pub fn forecast(
         med,
         nid,
         peer,
-    );
-    if !good {
-        return Outlook::Refused(Refusal::Table, 0);
+    ) {
+        Verdict::Refused(r) => Outlook::Refused(r, 0),
+        Verdict::Good => {
+            if counts.prefixes <= prefix {
+                return Outlook::Refused(Refusal::NoPrefix, 0);
+            }
+            let p = prefix as usize;
+            let first = start_of(routes, p);
+            Outlook::Forecast(shown(
+                counts.routers as usize,
+                first,
+                first + routes[p] as usize,
+                ids,
+                distances,
+                router,
+                asn,
+                preference,
+                path,
+                origin,
+                med,
+                nid,
+                peer,
+                early,
+                late,
+            ))
+        }
     }
-    if counts.prefixes <= prefix {
-        return Outlook::Refused(Refusal::NoPrefix, 0);
-    }
-    let p = prefix as usize;
-    let first = start_of(routes, p);
-    let end = first + routes[p] as usize;
-    let d = shown(
-        counts.routers as usize,
-        first,
-        end,
-        ids,
-        distances,
-        router,
-        asn,
-        preference,
-        path,
-        origin,
-        med,
-        nid,
-        peer,
-        early,
-        late,
-    );
-    Outlook::Forecast(d)
 }

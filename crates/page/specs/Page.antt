@@ -7,7 +7,7 @@ use mathlib.Core.List.{List, _++_, map}
 use lib.Dec.{eqb}
 use lib.ListN.{length, getD}
 use Rattle.refusal.specs.Numbers.{numberOf}
-use Rattle.model.specs.Rows.{span, column}
+use Rattle.model.specs.Rows.{span, column, start}
 use Rattle.model.specs.Columns.{Columns, lentMesh}
 use Rattle.model.specs.Decision.{Mesh, none}
 use Rattle.model.specs.Stability.{differing}
@@ -17,7 +17,6 @@ use Rattle.snapshot.specs.Format.{Snapshot}
 use Rattle.snapshot.specs.Reading.{Answer, accepted, refused, reading}
 use Rattle.snapshot.specs.Ranges.{anyOf}
 use Rattle.snapshot.specs.Tables.{Tables, short, mesh}
-use Rattle.tables.specs.Judging.{start}
 use Rattle.outlook.specs.Outlook.{cut, Part}
 use lib.Seq.{sets}
 use Rattle.refusal.specs.declared.Refusal.the-variants.{Room}

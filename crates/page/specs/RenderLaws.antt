@@ -11,7 +11,7 @@ use lib.Seq.{sets, sets-eq}
 use lib.Pow.{areBytes}
 use Rattle.refusal.specs.declared.Refusal.{Refusal}
 use Rattle.refusal.specs.Numbers.{numberOf}
-use Rattle.model.specs.Rows.{keep, span, column}
+use Rattle.model.specs.Rows.{keep, span, column, start}
 use Rattle.model.specs.RowLaws.{In, here, there, in-span}
 use Rattle.model.specs.Decision.{Mesh, none}
 use Rattle.model.specs.Contest.{early, late}
@@ -22,10 +22,10 @@ use Rattle.snapshot.specs.RangesLaws.{none-any}
 use Rattle.snapshot.specs.Format.{Prefix, Snapshot}
 use Rattle.snapshot.specs.Reading.{accepted, refused, reading}
 use Rattle.snapshot.specs.Theorems.{accepts}
-use Rattle.snapshot.specs.Tables.{Tables, short, Held, mesh}
+use Rattle.snapshot.specs.Tables.{Tables, short, Held, mesh, Room}
 use Rattle.scan.specs.declared.Read.the-variants as read
-use Rattle.tables.specs.Judging.{Room, Holding, start}
-use Rattle.tables.specs.Theorems.{has-room}
+use Rattle.tables.specs.Judging.{Holding}
+use Rattle.snapshot.specs.RoomLaws.{has-room}
 use Rattle.tables.specs.FilledLaws.{filled-held, filled-room}
 use Rattle.outlook.specs.Outlook.{cut}
 use Rattle.outlook.specs.OutlookLaws.{whole, part-of, n-is, same-parts, lent, pair}

@@ -7,49 +7,21 @@ use mathlib.Core.List.{List, [], _∷_}
 use lib.ListN.{getD}
 use lib.Dec.{T, ltb, lt→ltb}
 use lib.Pow.{areBytes}
-use borrow.Author.Tests.{ltb-false}
 use mir.Facts.{yes-and}
 use Rattle.refusal.specs.declared.Refusal.{Refusal}
 use Rattle.refusal.specs.declared.Refusal.the-variants.{Room}
 use Rattle.snapshot.specs.declared.Counts.{Counts}
 use Rattle.snapshot.specs.Limits.{mostPrefixes}
 use Rattle.snapshot.specs.Ranges.{anyOf}
-use Rattle.snapshot.specs.RangesLaws.{none-any, none-at}
 use Rattle.snapshot.specs.Format.{Snapshot}
 use Rattle.snapshot.specs.Reading.{Answer, accepted, refused, reading}
 use Rattle.snapshot.specs.Theorems.{accepts}
 use Rattle.snapshot.specs.Tables.{Tables, short, filled, countsOf}
 use Rattle.scan.specs.declared.Read.the-variants as read
 use Rattle.scan.specs.Scan.{told}
-use Rattle.fill.specs.Fill.{Spans, WideTables, filledFrom}
+use Rattle.fill.specs.Fill.{Spans, filledFrom}
 use Rattle.fill.specs.FillLaws.{spans, fills}
 use Rattle.reader.specs.Read.{left, readAnswer, readTables}
-
--- each table has room for its limit
-pub wide : (t : Tables) → anyOf (short t) ≡ false → WideTables t
-wide t e =
-    let each = none-at (short t) (none-any (short t) e) in
-    let enough : (k m : ℕ) → ltb k m ≡ false → m ≤ k = λ k m e. ltb-false k m e in
-    record {
-      ids = enough _ _ (each 0);
-      distances = enough _ _ (each 1);
-      rest = record {
-        address = enough _ _ (each 2);
-        bits = enough _ _ (each 3);
-        routes = enough _ _ (each 4);
-        rows = record {
-          router = enough _ _ (each 5);
-          asn = enough _ _ (each 6);
-          preference = enough _ _ (each 7);
-          path = enough _ _ (each 8);
-          origin = enough _ _ (each 9);
-          mark = enough _ _ (each 10);
-          med = enough _ _ (each 11);
-          nid = enough _ _ (each 12);
-          peer = enough _ _ (each 13);
-        };
-      };
-    }
 
 -- an answer tells what reading gave
 pub told-refused : (a : Answer) {r : Refusal} {at : ℕ} → read.Refused r at ≡ told a → a ≡ refused r at

@@ -32,24 +32,22 @@ pub fn read_snapshot(
         ≡ readTables (was input) (tables (was ids) (was distances) (was address) (was bits) (was routes)
         (columns (was router) (was asn) (was preference) (was path) (was origin) (was mark) (was med) (was nid) (was peer)))) ⌝ }
 {
-    let routers = snapshot::MOST_ROUTERS as usize;
-    let prefixes = snapshot::MOST_PREFIXES as usize;
-    let routes_in_all = snapshot::MOST_ROUTES as usize;
-    if (ids.len() < routers)
-        | (distances.len() < snapshot::ROOM_DISTANCES)
-        | (address.len() < prefixes)
-        | (bits.len() < prefixes)
-        | (routes.len() < prefixes)
-        | (router.len() < routes_in_all)
-        | (asn.len() < routes_in_all)
-        | (preference.len() < routes_in_all)
-        | (path.len() < routes_in_all)
-        | (origin.len() < routes_in_all)
-        | (mark.len() < routes_in_all)
-        | (med.len() < routes_in_all)
-        | (nid.len() < routes_in_all)
-        | (peer.len() < routes_in_all)
-    {
+    if snapshot::lacks_room(
+        ids,
+        distances,
+        address,
+        bits,
+        routes,
+        router,
+        asn,
+        preference,
+        path,
+        origin,
+        mark,
+        med,
+        nid,
+        peer,
+    ) {
         return Read::Refused(Refusal::Room, 0);
     }
     match scan::judge(input) {

@@ -8,8 +8,8 @@ ghost use Rattle.model.specs.Lent.{was, is, col};
 ghost use Rattle.snapshot.specs.Records.{countForm, routerForm, distanceForm, prefixForm, routeForm, endForm, written, spread, size};
 ghost use Rattle.snapshot.specs.Format.{routeFields};
 ghost use Rattle.snapshot.specs.Limits.{mostRoutes};
-ghost use Rattle.snapshot.specs.Tables.{columns};
-ghost use Rattle.tables.specs.Judging.{RoomRows, routeAt};
+ghost use Rattle.snapshot.specs.Tables.{columns, Wide};
+ghost use Rattle.tables.specs.Judging.{routeAt};
 ghost use Rattle.records.specs.Putting.{frontForm, backWidths};
 
 // The bytes of a record of each kind, its kind byte among them.
@@ -123,7 +123,7 @@ pub fn put_route(
     peer: &[u32],
     row: usize,
 )
-    requires { ⌜ (at + size routeForm ≤ length (now out)) × (row < mostRoutes) × RoomRows (columns (now router) (now asn) (now preference) (now path) (now origin) (now mark) (now med) (now nid) (now peer)) ⌝ }
+    requires { ⌜ (at + size routeForm ≤ length (now out)) × (row < mostRoutes) × Wide mostRoutes (columns (now router) (now asn) (now preference) (now path) (now origin) (now mark) (now med) (now nid) (now peer)) ⌝ }
     ensures { λ _. ⌜ is out ≡ sets (was out) at (written routeForm (routeFields (routeAt (columns (was router) (was asn) (was preference) (was path) (was origin) (was mark) (was med) (was nid) (was peer)) row))) ⌝ }
 {
     put_route_front(out, at, router, asn, preference, path, row);

@@ -1,5 +1,5 @@
 -- The lent tables: what each has room for, and what reading a snapshot leaves in them.
-use Prim.Native.Nat.{ℕ, _/_, _%_, _+_}
+use Prim.Native.Nat.{ℕ, _/_, _%_, _+_, _≤_}
 use mathlib.Core.Path.{_≡_}
 use mathlib.Core.Bool.{Bool, cond, _&&_}
 use mathlib.Core.List.{List, [], _∷_, _++_, map}
@@ -43,6 +43,10 @@ abbrev pub tables : List ℕ → List ℕ → List ℕ → List ℕ → List ℕ
 tables ids distances address bits routes rows =
     record { ids = ids; distances = distances; address = address; bits = bits; routes = routes; rows = rows }
 
+-- the tables of prefixes alone
+abbrev pub prefixTables : List ℕ → List ℕ → List ℕ → Columns → Tables
+prefixTables address bits routes rows = tables [] [] address bits routes rows
+
 -- which columns of routes are shorter than their limit
 abbrev pub shortColumns : Columns → List Bool
 shortColumns c =
@@ -66,6 +70,31 @@ short t =
     ∷ ltb (length (t .bits)) mostPrefixes
     ∷ ltb (length (t .routes)) mostPrefixes
     ∷ shortColumns (t .rows)
+
+-- each column has room for so many rows
+pub record Wide (n : ℕ) (c : Columns) : Type 0 where
+  pub router : n ≤ length (c .router)
+  pub asn : n ≤ length (c .asn)
+  pub preference : n ≤ length (c .preference)
+  pub path : n ≤ length (c .path)
+  pub origin : n ≤ length (c .origin)
+  pub mark : n ≤ length (c .mark)
+  pub med : n ≤ length (c .med)
+  pub nid : n ≤ length (c .nid)
+  pub peer : n ≤ length (c .peer)
+
+-- the tables of prefixes have room for their limits
+pub record RoomPrefixes (t : Tables) : Type 0 where
+  pub address : mostPrefixes ≤ length (t .address)
+  pub bits : mostPrefixes ≤ length (t .bits)
+  pub routes : mostPrefixes ≤ length (t .routes)
+  pub rows : Wide mostRoutes (t .rows)
+
+-- and all tables
+pub record Room (t : Tables) : Type 0 where
+  pub ids : mostRouters ≤ length (t .ids)
+  pub distances : roomDistances ≤ length (t .distances)
+  pub prefixes : RoomPrefixes t
 
 -- the columns with these routes from a row on
 abbrev pub putRoutes : Columns → ℕ → List Route → Columns

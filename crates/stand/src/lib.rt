@@ -3,11 +3,11 @@ ghost use mathlib.Core.Path.{_≡_};
 ghost use Prim.Native.Nat.{ℕ, _≤_, _<_};
 ghost use mathlib.Core.Bool.{true, false};
 ghost use lib.ListN.{length, getD};
-ghost use Rattle.model.specs.Rows.{table, column};
+ghost use Rattle.model.specs.Rows.{table, column, start};
 ghost use Rattle.model.specs.Decision.{none};
 ghost use Rattle.model.specs.Lent.{was, is, Inside};
 ghost use Rattle.model.specs.Columns.{mostRows, columns, Fits};
-ghost use Rattle.model.specs.Listing.{startOf, countsIn, gathered, groupsIn, standsAt, settledBy, restIn, Ready, RestRows};
+ghost use Rattle.model.specs.Listing.{countsIn, gathered, groupsIn, standsAt, settledBy, restIn, Ready, RestRows};
 
 // The row listed at a place, or none.
 fn row_at(rows: &[u16], place: u32) -> u16
@@ -22,7 +22,7 @@ fn row_at(rows: &[u16], place: u32) -> u16
 
 // For each router the contender that stands at the place which the state gives it, or none.
 fn rows_at(order: &[u16], ends: &[u32], state: &[u32], own: &mut [u16])
-    requires { ⌜ (length (now order) ≤ mostRows) × (startOf (now ends) (length (now ends)) ≡ length (now order)) × (length (now state) ≡ length (now ends)) × (length (now own) ≡ length (now ends)) ⌝ }
+    requires { ⌜ (length (now order) ≤ mostRows) × (start (now ends) (length (now ends)) ≡ length (now order)) × (length (now state) ≡ length (now ends)) × (length (now own) ≡ length (now ends)) ⌝ }
     ensures { λ _. ⌜ is own ≡ table (length (was ends)) (standsAt (was order) (was ends) (was state)) ⌝ }
 {
     let mut from: usize = 0;

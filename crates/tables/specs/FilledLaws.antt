@@ -11,9 +11,8 @@ use Rattle.model.specs.Decision.{Route}
 use Rattle.model.specs.RowLaws.{table-length, table-at, table-same}
 use Rattle.snapshot.specs.Limits.{stride, mostRoutes}
 use Rattle.snapshot.specs.Format.{Snapshot, distance, Valid}
-use Rattle.snapshot.specs.Tables.{Columns, Tables, used, putDistances, putRoutes, allRoutes, filled, countsOf, Held}
+use Rattle.snapshot.specs.Tables.{Columns, Tables, used, putDistances, putRoutes, allRoutes, filled, countsOf, Held, Room, Wide}
 use Rattle.snapshot.specs.ChecksLaws.{count-range}
-use Rattle.tables.specs.Judging.{Room, RoomRows}
 use Rattle.tables.specs.ListsLaws.{sets-twice}
 use Rattle.tables.specs.HeldLaws.{length-all}
 use Rattle.tables.specs.PartsLaws.{tables-are, columns-are}
@@ -37,7 +36,7 @@ distances-twice s ds =
 field-twice : {A : Type 0} (f : A → ℕ) (ys : List A) (xs : List ℕ) → length ys ≤ length xs → sets (sets xs 0 (map f ys)) 0 (map f ys) ≡ sets xs 0 (map f ys)
 field-twice f ys xs h = let e = length-map ys f in sets-twice xs (map f ys) (omega arith)
 
-rows-twice : (c : Columns) (rs : List Route) → RoomRows c → length rs ≤ mostRoutes → putRoutes (putRoutes c 0 rs) 0 rs ≡ putRoutes c 0 rs
+rows-twice : (c : Columns) (rs : List Route) → Wide mostRoutes c → length rs ≤ mostRoutes → putRoutes (putRoutes c 0 rs) 0 rs ≡ putRoutes c 0 rs
 rows-twice c rs room h =
     columns-are (putRoutes c 0 rs)
     (field-twice (λ r. r .router) rs (c .router) (omega arith))
@@ -73,7 +72,7 @@ module _ {s : Snapshot} {t : Tables} (valid : Valid s) (room : Room t) where
 stored-room : {n : ℕ} (xs vs : List ℕ) → n ≤ length xs → n ≤ length (sets xs 0 vs)
 stored-room xs vs h = rw length-sets h
 
-rows-room : (c : Columns) (rs : List Route) → RoomRows c → RoomRows (putRoutes c 0 rs)
+rows-room : (c : Columns) (rs : List Route) → Wide mostRoutes c → Wide mostRoutes (putRoutes c 0 rs)
 rows-room c rs room = record {
   router = stored-room (c .router) (map (λ r. r .router) rs) (room .router);
   asn = stored-room (c .asn) (map (λ r. r .asn) rs) (room .asn);

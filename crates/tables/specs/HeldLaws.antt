@@ -11,16 +11,16 @@ use lib.Seq.{sets, ext-getD, take-suc, getD-append-add}
 use lib.Dec.{eqb}
 use lib.Arith.{digits-lt, digits-div, digits-mod}
 use borrow.Author.Tests.{lt-ltb, eq-eqb, ne-eqb, eqb-true, eqb-false}
-use Rattle.model.specs.Rows.{table, column}
+use Rattle.model.specs.Rows.{table, column, start}
 use Rattle.model.specs.Decision.{Route}
 use Rattle.model.specs.RowLaws.{table-at, table-same, by}
 use Rattle.snapshot.specs.declared.Counts.{Counts}
 use Rattle.snapshot.specs.Limits.{mostRouters, stride, mostPrefixes, mostRoutes}
 use Rattle.snapshot.specs.Format.{Prefix, Snapshot, Pair, row, rows, pairs, pairsBefore, distance, routesIn, Valid}
-use Rattle.snapshot.specs.Tables.{Columns, Tables, used, putDistances, allRoutes, filled, Held}
+use Rattle.snapshot.specs.Tables.{Columns, Tables, used, putDistances, allRoutes, filled, Held, Room}
 use Rattle.snapshot.specs.ChecksLaws.{count-range, routesIn-append}
 use Rattle.snapshot.specs.PairsLaws.{row-equal, row-other, pairs-length, pair-at, pair-of}
-use Rattle.tables.specs.Judging.{Room, routeAt, start, routesAt, prefixAt, cell, snapshotOf, Below}
+use Rattle.tables.specs.Judging.{routeAt, routesAt, prefixAt, cell, snapshotOf, Below}
 use Rattle.tables.specs.ListsLaws.{as-table, map-at, stands}
 
 -- ---- the pairs of n routers

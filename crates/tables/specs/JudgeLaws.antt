@@ -11,18 +11,18 @@ use lib.ListN.{length}
 use lib.Dec.{T, eqb, leb, ltb}
 use borrow.Author.Count.{below-none, below-more}
 use borrow.Author.Tests.{eq-eqb, ne-eqb, eqb-true, eqb-false, le-ltb, ltb-false, leb-true, leb-false, not-true, not-false}
-use Rattle.model.specs.Rows.{some, table, column}
+use Rattle.model.specs.Rows.{some, table, column, start}
 use Rattle.model.specs.Decision.{Route}
-use Rattle.model.specs.RowLaws.{table-length, by}
+use Rattle.model.specs.RowLaws.{table-length, by, start-first, start-next, start-within}
 use Rattle.snapshot.specs.declared.Counts.{Counts}
 use Rattle.snapshot.specs.Limits.{mostRouters, farthest, mostPrefixes, mostInPrefix, mostRoutes, lastAsn, longestPath, lastOrigin}
 use Rattle.snapshot.specs.Ranges.{none, anyOf, countTests, idTests, prefixTests, routeTests, rises, risesRoute}
 use Rattle.snapshot.specs.RangesLaws.{none-any, none-at}
 use Rattle.snapshot.specs.Records.{routeForm, Fits}
 use Rattle.snapshot.specs.Format.{GoodId, GoodRoute, Each, latest, routeFields}
-use Rattle.snapshot.specs.Tables.{Columns, Tables}
+use Rattle.snapshot.specs.Tables.{Columns, Tables, prefixTables, RoomPrefixes}
 use Rattle.snapshot.specs.ChecksLaws.{count-range}
-use Rattle.tables.specs.Judging.{RoomPrefixes, prefixTables, routeAt, start, routesAt, prefixAt, cell, lateAt, CellGood, RouteGood, PrefixGood, Below, InRange, Totalled, Decides}
+use Rattle.tables.specs.Judging.{routeAt, routesAt, prefixAt, cell, lateAt, CellGood, RouteGood, PrefixGood, Below, InRange, Totalled, Decides}
 use Rattle.tables.specs.ListsLaws.{latest-table, each-below, below-each, none-table, some-more, table-none}
 use Rattle.tables.specs.PartsLaws.{cell-zero, cell-range, cell-good}
 
@@ -268,36 +268,6 @@ module _ (n : ℕ) (t : Tables) (p at : ℕ) {bad late : Bool} (here : at ≡ st
         no = λ a good. judged .no a (each-below (GoodRoute n) (route at) count (subst (λ (at : ℕ). Each (GoodRoute n) [] (table count (route at))) (sym here) (good .routes)));
       }
 
-pub start-next : (routes : List ℕ) (p : ℕ) → start routes (p + 1) ≡ start routes p + column routes p
-unfolding start
-start-next routes p = rw add-one
-
-pub start-first : (routes : List ℕ) → start routes 0 ≡ 0
-unfolding start
-start-first routes = refl
-
-pub start-up : (routes : List ℕ) (p q : ℕ) → p ≤ q → start routes p ≤ start routes q
-unfolding start
-start-up routes p zero l = ap≤ (let e : p ≡ 0 = omega arith in e)
-  where
-    ap≤ : p ≡ 0 → start routes p ≤ start routes 0
-    ap≤ e = subst (λ (k : ℕ). start routes k ≤ start routes 0) (sym e) (le-refl (start routes 0))
-start-up routes p (suc q) l = go (le-or p q l) (start-up routes p q)
-  where
-    le-or : (p q : ℕ) → p ≤ suc q → (p ≡ suc q) ⊎ (p ≤ q)
-    le-or p q l = by (leb p q) (λ e. inr (leb-true p q e)) (λ e. inl (let m = leb-false p q e in omega arith))
-
-    go : (p ≡ suc q) ⊎ (p ≤ q) → (p ≤ q → start routes p ≤ start routes q) → start routes p ≤ start routes q + column routes q
-    go (inl e) ih = subst (λ (k : ℕ). start routes k ≤ start routes (suc q)) (sym e) (le-refl (start routes (suc q)))
-    go (inr m) ih = let h = ih m in omega arith
-
--- the routes of a prefix end before those of all end
-pub start-within : (routes : List ℕ) (p n : ℕ) → p < n → start routes p + column routes p ≤ start routes n
-start-within routes p n l =
-    let s = start-next routes p in
-    let up = start-up routes (p + 1) n (omega arith) in
-    omega arith
-
 -- those below p passed, and their routes end at `at`
 pub record Counting (counts : Counts) (t : Tables) (p at : ℕ) : Type 0 where
   pub passed : SoFar (PrefixGood (counts .routers) t) (counts .prefixes) p
@@ -333,7 +303,3 @@ module _ {counts : Counts} {t : Tables} where
           yes = λ e. (sofar-all (c .passed) l, sym sum ∙ eqb-true at (counts .routes) e);
           no = λ e total. eqb-false at (counts .routes) e (sum ∙ total .1);
         }
-
--- the tables of prefixes have their room alone
-pub room-alone : {t : Tables} → RoomPrefixes t → RoomPrefixes (prefixTables (t .address) (t .bits) (t .routes) (t .rows))
-room-alone room = record { address = room .address; bits = room .bits; routes = room .routes; rows = room .rows }

@@ -7,7 +7,7 @@ use lib.ListN.{length}
 use lib.Dec.{T, eqb}
 use Rattle.refusal.specs.declared.Refusal.the-variants as refusal
 use Rattle.refusal.specs.Numbers.{numberOf}
-use Rattle.model.specs.Rows.{table, column}
+use Rattle.model.specs.Rows.{table, column, start}
 use Rattle.model.specs.Decision.{Route}
 use Rattle.snapshot.specs.declared.Counts.{Counts}
 use Rattle.snapshot.specs.Limits.{mostRouters, stride, roomDistances, mostPrefixes, mostRoutes}
@@ -16,35 +16,6 @@ use Rattle.snapshot.specs.Format.{Prefix, Snapshot, pairs, GoodId, GoodRoute, G
 use Rattle.snapshot.specs.Tables.{Columns, Tables, tables, short, Held}
 use Rattle.tables.specs.declared.Verdict.{Verdict}
 use Rattle.tables.specs.declared.Verdict.the-variants.{Good, Refused}
-
--- each column has room for its limit
-pub record RoomRows (c : Columns) : Type 0 where
-  pub router : mostRoutes ≤ length (c .router)
-  pub asn : mostRoutes ≤ length (c .asn)
-  pub preference : mostRoutes ≤ length (c .preference)
-  pub path : mostRoutes ≤ length (c .path)
-  pub origin : mostRoutes ≤ length (c .origin)
-  pub mark : mostRoutes ≤ length (c .mark)
-  pub med : mostRoutes ≤ length (c .med)
-  pub nid : mostRoutes ≤ length (c .nid)
-  pub peer : mostRoutes ≤ length (c .peer)
-
--- so have the tables of prefixes
-pub record RoomPrefixes (t : Tables) : Type 0 where
-  pub address : mostPrefixes ≤ length (t .address)
-  pub bits : mostPrefixes ≤ length (t .bits)
-  pub routes : mostPrefixes ≤ length (t .routes)
-  pub rows : RoomRows (t .rows)
-
--- and all tables
-pub record Room (t : Tables) : Type 0 where
-  pub ids : mostRouters ≤ length (t .ids)
-  pub distances : roomDistances ≤ length (t .distances)
-  pub prefixes : RoomPrefixes t
-
--- the tables of prefixes alone
-abbrev pub prefixTables : List ℕ → List ℕ → List ℕ → Columns → Tables
-prefixTables address bits routes rows = tables [] [] address bits routes rows
 
 -- ---- the only snapshot that they can hold
 
@@ -61,11 +32,6 @@ routeAt c q = record {
   nid = column (c .nid) q;
   peer = column (c .peer) q;
 }
-
--- the row at which the routes of a prefix start: behind those of the prefixes below it
-unfoldable pub start : List ℕ → ℕ → ℕ
-start routes zero = 0
-start routes (suc p) = start routes p + column routes p
 
 -- so many routes from a row on
 abbrev pub routesAt : Columns → ℕ → ℕ → List Route

@@ -9,7 +9,7 @@ use lib.ListN.{length, getD, length-map}
 use lib.Seq.{sets, ext-getD}
 use lib.Dec.{T, eqb, ltb}
 use borrow.Author.Tests.{ltb-true, eqb-true, eqb-false, eq-eqb, not-false}
-use Rattle.model.specs.Rows.{span, table, column}
+use Rattle.model.specs.Rows.{span, table, column, start}
 use Rattle.model.specs.Decision.{Route}
 use Rattle.model.specs.RowLaws.{table-length, table-at, table-same, by, both}
 use Rattle.snapshot.specs.declared.Counts.{Counts}
@@ -17,10 +17,10 @@ use Rattle.snapshot.specs.Limits.{stride, mostRoutes}
 use Rattle.snapshot.specs.Ranges.{none, distanceTests}
 use Rattle.snapshot.specs.RangesLaws.{none-cons, none-split}
 use Rattle.snapshot.specs.Format.{Snapshot, Pair, pairs, pairsBefore, distance, routesIn, Each, GoodId, GoodDistance, GoodPrefix, Valid}
-use Rattle.snapshot.specs.Tables.{Columns, Tables, columns, tables, used, putDistances, putRoutes, allRoutes, Held}
+use Rattle.snapshot.specs.Tables.{Columns, Tables, columns, tables, used, putDistances, putRoutes, allRoutes, Held, Room, Wide}
 use Rattle.snapshot.specs.ChecksLaws.{count-range}
 use Rattle.snapshot.specs.PairsLaws.{pairs-length, pair-of}
-use Rattle.tables.specs.Judging.{Room, RoomRows, routeAt, start, prefixAt, cell, snapshotOf, Below, cellTests, CellGood, IdGood, InRange, Totalled, Parts, Decides, Holding, Judged}
+use Rattle.tables.specs.Judging.{routeAt, prefixAt, cell, snapshotOf, Below, cellTests, CellGood, IdGood, InRange, Totalled, Parts, Decides, Holding, Judged}
 use Rattle.tables.specs.ListsLaws.{table-append, table-snoc, as-table, map-at, each-below, below-each, stays}
 use Rattle.tables.specs.HeldLaws.{pair-two, no-pair, cells, cells-at, distance-apart, distance-equal, length-all, all-append, held-is, cell-is, n-is}
 
@@ -73,7 +73,7 @@ pub columns-are : (c : Columns) {a b d e f g h i j : List ℕ} → a ≡ c .rout
     → h ≡ c .med → i ≡ c .nid → j ≡ c .peer → columns a b d e f g h i j ≡ c
 columns-are c e1 e2 e3 e4 e5 e6 e7 e8 e9 = rw (e1, e2, e3, e4, e5, e6, e7, e8, e9)
 
-rows-stay : (c : Columns) (n : ℕ) → RoomRows c → n ≤ mostRoutes → putRoutes c 0 (table n (routeAt c)) ≡ c
+rows-stay : (c : Columns) (n : ℕ) → Wide mostRoutes c → n ≤ mostRoutes → putRoutes c 0 (table n (routeAt c)) ≡ c
 rows-stay c n room h =
     columns-are c
     (field-stays (λ r. r .router) (routeAt c) (c .router) n (omega arith) (λ k l. refl))

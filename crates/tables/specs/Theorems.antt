@@ -1,102 +1,88 @@
--- What is proved of counts and tables that hold a snapshot: they hold one, its parts stand in their rows, and its prefixes are sound.
+-- What is proved of counts and tables that hold a snapshot: they hold one, its parts stand in their rows, and its prefixes are sound;
+-- and that judgements and verdicts determine their answer.
 use Prim.Native.Nat.{ℕ, suc, _+_, _≤_, _<_}
 use native.Mathlib.Omega.{arith}
-use mathlib.Core.Path.{_≡_, sym, ap, _∙_, subst, fun-ext}
+use mathlib.Core.Path.{_≡_, refl, sym, ap, _∙_, subst, fun-ext}
 use mathlib.Core.Logic.{_⊎_, inl, inr, ⊎-elim}
-use mathlib.Core.Bool.{Bool, false, _&&_}
+use mathlib.Core.Bool.{Bool, true, false, _&&_}
 use mathlib.Core.List.{List, [], _∷_, map, map-map}
 use lib.ListN.{length, getD, take, drop}
 use lib.Dec.{T, eqb, ltb}
-use borrow.Author.Tests.{leb-false, ltb-false, le-ltb, eq-eqb, eqb-false}
-use mir.Facts.{or-yes, and-yes, ltb-yes, eqb-yes}
-use Rattle.model.specs.Rows.{span, table, column, some}
+use borrow.Author.Tests.{leb-false, eq-eqb, eqb-false}
+use mir.Facts.{or-yes, and-yes, ltb-yes, eqb-yes, T-not}
+use Rattle.refusal.specs.declared.Refusal.{Refusal}
+use Rattle.refusal.specs.declared.Refusal.the-variants as refusal
+use Rattle.refusal.specs.Numbers.{numberOf}
+use Rattle.refusal.specs.NumbersLaws.{number-tells, number-range}
+use Rattle.model.specs.Rows.{span, table, column, some, start}
 use Rattle.model.specs.Decision.{Route}
 use Rattle.model.specs.Stability.{Sound}
 use Rattle.model.specs.SoundLaws.{Rising, rising-sound}
-use Rattle.model.specs.RowLaws.{table-length, table-at}
+use Rattle.model.specs.RowLaws.{table-length, table-at, start-within}
 use Rattle.snapshot.specs.declared.Counts.{Counts}
 use Rattle.snapshot.specs.Limits.{mostRouters, mostInPrefix, mostRoutes}
-use Rattle.snapshot.specs.Ranges.{none, routeTests, rises, risesRoute}
-use Rattle.snapshot.specs.RangesLaws.{none-at, none-cons}
+use Rattle.snapshot.specs.Ranges.{anyOf, none, routeTests, rises, risesRoute}
+use Rattle.snapshot.specs.RangesLaws.{none-at}
 use Rattle.snapshot.specs.Format.{Prefix, Snapshot, Each, GoodId, GoodRoute, GoodPrefix, distance, Valid}
-use Rattle.snapshot.specs.Tables.{Tables, short, Held, routesOf, mesh}
+use Rattle.snapshot.specs.Tables.{Tables, short, Held, routesOf, mesh, Room}
 use Rattle.snapshot.specs.ChecksLaws.{count-range}
-use Rattle.tables.specs.Judging.{Room, routeAt, start, routesAt, prefixAt, cell}
+use Rattle.tables.specs.declared.Verdict.{Verdict}
+use Rattle.tables.specs.declared.Verdict.the-variants.{Good, Refused}
+use Rattle.tables.specs.Judging as judging
+use Rattle.tables.specs.Judging.{routeAt, routesAt, prefixAt, cell, Decides, Holding, numbered, Verdicts}
 use Rattle.tables.specs.ListsLaws.{map-at, as-table, each-below, latest-table, table-none, table-part, table-take}
 use Rattle.tables.specs.HeldLaws.{no-prefix, no-route, few, n-is, cell-is, held-is}
 use Rattle.tables.specs.PartsLaws.{and-zero, holding-parts}
-use Rattle.tables.specs.JudgeLaws.{off, start-within}
-
--- where no table is shorter than its limit, each has its room
-pub has-room : (t : Tables) → T (none (short t)) → Room t
-has-room t enough =
-    let each = none-at (short t) enough in
-    record {
-      ids = ltb-false _ _ (each 0);
-      distances = ltb-false _ _ (each 1);
-      prefixes = record {
-        address = ltb-false _ _ (each 2);
-        bits = ltb-false _ _ (each 3);
-        routes = ltb-false _ _ (each 4);
-        rows = record {
-          router = ltb-false _ _ (each 5);
-          asn = ltb-false _ _ (each 6);
-          preference = ltb-false _ _ (each 7);
-          path = ltb-false _ _ (each 8);
-          origin = ltb-false _ _ (each 9);
-          mark = ltb-false _ _ (each 10);
-          med = ltb-false _ _ (each 11);
-          nid = ltb-false _ _ (each 12);
-          peer = ltb-false _ _ (each 13);
-        };
-      };
-    }
-
-abbrev AllFalse : List Bool → Type 0
-AllFalse [] = Unit {0}
-AllFalse (b ∷ bs) = (b ≡ false) × AllFalse bs
-
-all-false : (bs : List Bool) → AllFalse bs → T (none bs)
-all-false [] h = tt
-all-false (b ∷ bs) h = none-cons bs (h .0) (all-false bs (h .1))
-
--- and the other way round
-pub room-enough : (t : Tables) → Room t → T (none (short t))
-room-enough t room =
-    let p = room .prefixes in
-    let r = p .rows in
-    all-false (short t) (
-      le-ltb _ _ (room .ids),
-      (
-        le-ltb _ _ (room .distances),
-        (
-          le-ltb _ _ (p .address),
-          (
-            le-ltb _ _ (p .bits),
-            (
-              le-ltb _ _ (p .routes),
-              (
-                le-ltb _ _ (r .router),
-                (
-                  le-ltb _ _ (r .asn),
-                  (
-                    le-ltb _ _ (r .preference),
-                    (
-                      le-ltb _ _ (r .path),
-                      (le-ltb _ _ (r .origin), (le-ltb _ _ (r .mark), (le-ltb _ _ (r .med), (le-ltb _ _ (r .nid), (le-ltb _ _ (r .peer), tt))))),
-                    ),
-                  ),
-                ),
-              ),
-            ),
-          ),
-        ),
-      ),
-    )
+use Rattle.tables.specs.JudgeLaws.{off}
 
 -- two valid snapshots that are held by the same counts and tables are one
 pub held-one : {counts : Counts} {t : Tables} {s u : Snapshot} → Room t → Valid s → Held counts t s → Valid u → Held counts t u → s ≡ u
 held-one room v h w k = held-is room v h ∙ sym (held-is room w k)
+
+-- ---- judgements and verdicts
+
+-- two answers to one question are one
+pub decides-one : {P : Type 0} (a b : Bool) → Decides P a → Decides P b → a ≡ b
+decides-one true true d e = refl
+decides-one true false d e = absurd (e .no refl (d .yes refl))
+decides-one false true d e = absurd (d .no refl (e .yes refl))
+decides-one false false d e = refl
+
+-- a number tells its verdict
+numbered-tells : (v w : Verdict) → numbered v ≡ numbered w → v ≡ w
+numbered-tells Good Good e = refl
+numbered-tells Good (Refused r) e = absurd (omega (arith, e, number-range r .0))
+numbered-tells (Refused r) Good e = absurd (omega (arith, e, number-range r .0))
+numbered-tells (Refused r) (Refused q) e = ap Refused (number-tells r q e)
+
+module _ {counts : Counts} {t : Tables} where
+  one-number : {n m : ℕ} → Verdicts counts t n → Verdicts counts t m → n ≡ m
+  one-number (judging.room h) (judging.room k) = refl
+  one-number (judging.room h) (judging.unheld k f) = absurd (T-not (anyOf (short t)) h k)
+  one-number (judging.room h) (judging.held k g) = absurd (T-not (anyOf (short t)) h k)
+  one-number (judging.unheld h f) (judging.room k) = absurd (T-not (anyOf (short t)) k h)
+  one-number (judging.unheld h f) (judging.unheld k g) = refl
+  one-number (judging.unheld h f) (judging.held k g) = absurd (f g)
+  one-number (judging.held h g) (judging.room k) = absurd (T-not (anyOf (short t)) k h)
+  one-number (judging.held h g) (judging.unheld k f) = absurd (f g)
+  one-number (judging.held h g) (judging.held k i) = refl
+
+  -- any two verdicts on the same counts and tables are one
+  pub verdicts-one : (v w : Verdict) → Verdicts counts t (numbered v) → Verdicts counts t (numbered w) → v ≡ w
+  verdicts-one v w h k = numbered-tells v w (one-number h k)
+
+  -- a good one: there is room, and a snapshot
+  pub verdict-good : {n : ℕ} → Verdicts counts t n → n ≡ 0 → T (none (short t)) × Holding counts t
+  verdict-good (judging.room h) e = absurd (omega arith)
+  verdict-good (judging.unheld h f) e = absurd (omega arith)
+  verdict-good (judging.held h g) e = (h, g)
+
+  -- one that refuses: ROOM, or TABLE
+  pub verdict-refused : {n : ℕ} → Verdicts counts t n → (r : Refusal) → n ≡ numberOf r
+      → ((r ≡ refusal.Room) × T (anyOf (short t))) ⊎ ((r ≡ refusal.Table) × T (none (short t)) × (Holding counts t → ⊥))
+  verdict-refused (judging.room h) r e = inl (number-tells r refusal.Room (sym e), h)
+  verdict-refused (judging.unheld h f) r e = inr (number-tells r refusal.Table (sym e), h, f)
+  verdict-refused (judging.held h g) r e = absurd (omega (arith, e, number-range r .0))
 
 -- ---- where the parts of a snapshot that is held stand
 

@@ -4,53 +4,18 @@ ghost use mathlib.Core.Path.{_≡_};
 ghost use Prim.Native.Nat.{_+_, _≤_, _<_};
 ghost use lib.ListN.{length};
 ghost use lib.Dec.{eqb, ltb};
-ghost use Rattle.model.specs.Rows.{some, table, column};
+ghost use Rattle.model.specs.Rows.{some, table, column, start};
 ghost use Rattle.model.specs.Lent.{was, col};
 ghost use Rattle.snapshot.specs.Limits.{mostRouters, roomDistances, farthest, mostPrefixes, mostRoutes};
 ghost use Rattle.snapshot.specs.Ranges.{anyOf};
 ghost use Rattle.snapshot.specs.Plain.{routeIs};
-ghost use Rattle.snapshot.specs.Tables.{columns, tables, short};
-ghost use Rattle.tables.specs.Judging.{RoomRows, RoomPrefixes, Room, prefixTables, routeAt, start, lateAt, IdGood, CellGood, RouteGood, PrefixGood, Below, InRange, Totalled, Decides, Judged, numbered, Verdicts};
+ghost use Rattle.snapshot.specs.Tables.{columns, tables, short, prefixTables, RoomPrefixes, Room, Wide};
+ghost use Rattle.tables.specs.Judging.{routeAt, lateAt, IdGood, CellGood, RouteGood, PrefixGood, Below, InRange, Totalled, Decides, Judged, numbered, Verdicts};
 
 // What is found of counts and tables: they hold a snapshot, or a refusal.
 pub enum Verdict {
     Good,
     Refused(refusal::Refusal),
-}
-
-// Whether a table is shorter than its limit (ROOM).
-pub fn lacks_room(
-    ids: &[u32],
-    distances: &[u32],
-    address: &[u32],
-    bits: &[u32],
-    routes: &[u32],
-    router: &[u32],
-    asn: &[u32],
-    preference: &[u32],
-    path: &[u32],
-    origin: &[u32],
-    mark: &[u32],
-    med: &[u32],
-    nid: &[u32],
-    peer: &[u32],
-) -> bool
-    ensures { λ r. ⌜ r ≡ anyOf (short (tables (was ids) (was distances) (was address) (was bits) (was routes) (columns (was router) (was asn) (was preference) (was path) (was origin) (was mark) (was med) (was nid) (was peer)))) ⌝ }
-{
-    (ids.len() < snapshot::MOST_ROUTERS as usize)
-        | (distances.len() < snapshot::ROOM_DISTANCES)
-        | (address.len() < snapshot::MOST_PREFIXES as usize)
-        | (bits.len() < snapshot::MOST_PREFIXES as usize)
-        | (routes.len() < snapshot::MOST_PREFIXES as usize)
-        | (router.len() < snapshot::MOST_ROUTES as usize)
-        | (asn.len() < snapshot::MOST_ROUTES as usize)
-        | (preference.len() < snapshot::MOST_ROUTES as usize)
-        | (path.len() < snapshot::MOST_ROUTES as usize)
-        | (origin.len() < snapshot::MOST_ROUTES as usize)
-        | (mark.len() < snapshot::MOST_ROUTES as usize)
-        | (med.len() < snapshot::MOST_ROUTES as usize)
-        | (nid.len() < snapshot::MOST_ROUTES as usize)
-        | (peer.len() < snapshot::MOST_ROUTES as usize)
 }
 
 // Whether counts are in their ranges.
@@ -154,7 +119,7 @@ pub fn route_at(
     peer: &[u32],
     row: usize,
 ) -> snapshot::Route
-    requires { ⌜ (row < mostRoutes) × RoomRows (columns (now router) (now asn) (now preference) (now path) (now origin) (now mark) (now med) (now nid) (now peer)) ⌝ }
+    requires { ⌜ (row < mostRoutes) × Wide mostRoutes (columns (now router) (now asn) (now preference) (now path) (now origin) (now mark) (now med) (now nid) (now peer)) ⌝ }
     ensures { λ r. ⌜ routeIs r ≡ routeAt (columns (was router) (was asn) (was preference) (was path) (was origin) (was mark) (was med) (was nid) (was peer)) row ⌝ }
 {
     snapshot::Route {
@@ -185,7 +150,7 @@ fn routes_good(
     at: usize,
     count: usize,
 ) -> bool
-    requires { ⌜ (routers ≤ mostRouters) × (at + count ≤ mostRoutes) × RoomRows (columns (now router) (now asn) (now preference) (now path) (now origin) (now mark) (now med) (now nid) (now peer)) ⌝ }
+    requires { ⌜ (routers ≤ mostRouters) × (at + count ≤ mostRoutes) × Wide mostRoutes (columns (now router) (now asn) (now preference) (now path) (now origin) (now mark) (now med) (now nid) (now peer)) ⌝ }
     ensures { λ r. ⌜ Decides (Below count (RouteGood routers (columns (was router) (was asn) (was preference) (was path) (was origin) (was mark) (was med) (was nid) (was peer)) at)) r ⌝ }
 {
     let mut k = 0;
@@ -373,7 +338,7 @@ pub fn examine(
 ) -> Verdict
     ensures { λ r. ⌜ Verdicts counts (tables (was ids) (was distances) (was address) (was bits) (was routes) (columns (was router) (was asn) (was preference) (was path) (was origin) (was mark) (was med) (was nid) (was peer))) (numbered r) ⌝ }
 {
-    if lacks_room(
+    if snapshot::lacks_room(
         ids,
         distances,
         address,

@@ -21,7 +21,8 @@ use Rattle.tables.specs.Judging.{snapshotOf}
 use Rattle.tables.specs.ListsLaws.{sets-front}
 use Rattle.tables.specs.HeldLaws.{held-is}
 use Rattle.tables.specs.FilledLaws.{filled-held, filled-room}
-use Rattle.tables.specs.Theorems.{has-room, room-enough, held-one}
+use Rattle.snapshot.specs.RoomLaws.{has-room, room-enough}
+use Rattle.tables.specs.Theorems.{held-one}
 use Rattle.writer.specs.declared.Write.{Write}
 use Rattle.writer.specs.declared.Write.the-variants.{Written, Refused}
 use Rattle.writer.specs.Writing.{Said, wrote, said, Writes, room, unheld, full, done}

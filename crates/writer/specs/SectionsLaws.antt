@@ -8,13 +8,13 @@ use mathlib.Core.Logic.{_≢_}
 use mathlib.Core.List.{List, [], _∷_, _++_, map, append-assoc}
 use lib.ListN.{length}
 use lib.Seq.{sets, length-sets}
-use Rattle.model.specs.Rows.{table, column}
+use Rattle.model.specs.Rows.{table, column, start}
 use Rattle.model.specs.LoopLaws.{rest, rest-next, rest-end}
 use Rattle.snapshot.specs.Records.{routerForm, distanceForm, prefixForm, routeForm, written}
 use Rattle.snapshot.specs.Format.{Pair, row, rows, routersBytes, routesBytes, prefixesBytes, routeFields}
 use Rattle.snapshot.specs.Tables.{Columns, Tables}
 use Rattle.snapshot.specs.PairsLaws.{due-row, due-equal, due-other, due-row-end, due-end}
-use Rattle.tables.specs.Judging.{routeAt, start, routesAt, prefixAt, cell}
+use Rattle.tables.specs.Judging.{routeAt, routesAt, prefixAt, cell}
 use Rattle.records.specs.Putting.{Space, Puts}
 use Rattle.records.specs.PuttingLaws.{Left, left, left-next, left-room, left-as, left-done, left-end}
 use Rattle.writer.specs.Writing.{pairsBytes, rowBytes, rowsBytes, prefixFrom, prefixBytes}

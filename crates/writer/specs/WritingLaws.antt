@@ -3,29 +3,29 @@ use Prim.Native.Nat.{ℕ, _+_, _-_, _≤_, _<_}
 use native.Mathlib.Nat.{mul-le-mul}
 use native.Mathlib.Omega.{arith}
 use mathlib.Core.Path.{_≡_, refl, sym, ap, _∙_, subst}
+use mathlib.Core.Logic.{⊎-elim}
 use mathlib.Core.List.{List, [], _∷_, _++_, append-assoc}
 use lib.ListN.{length, length-map}
 use lib.Dec.{T}
 use lib.Seq.{sets}
 use Rattle.refusal.specs.declared.Refusal.{Refusal}
-use Rattle.refusal.specs.declared.Refusal.the-variants.{Room}
-use Rattle.refusal.specs.NumbersLaws.{number-range}
+use Rattle.refusal.specs.declared.Refusal.the-variants as refusal
 use Rattle.model.specs.Rows.{table}
 use Rattle.snapshot.specs.declared.Counts.{Counts}
 use Rattle.snapshot.specs.Limits.{mostRouters}
 use Rattle.snapshot.specs.Ranges.{none}
 use Rattle.snapshot.specs.Records.{countForm, endForm, written}
 use Rattle.snapshot.specs.Format.{Snapshot, pairs, routersBytes, distancesBytes, prefixesBytes, routesIn, records, encode}
-use Rattle.snapshot.specs.Tables.{Tables, short, countsOf}
+use Rattle.snapshot.specs.Tables.{Tables, short, Room, countsOf}
 use Rattle.snapshot.specs.ChecksLaws.{count-range}
 use Rattle.snapshot.specs.PairsLaws.{pairs-length}
 use Rattle.snapshot.specs.WrittenLaws.{encode-size}
-use Rattle.tables.specs.Judging as judging
 use Rattle.tables.specs.Judging.{prefixAt, snapshotOf, cell, InRange, Parts, Holding, numbered, Verdicts}
 use Rattle.tables.specs.declared.Verdict.{Verdict}
 use Rattle.tables.specs.declared.Verdict.the-variants as verdict
+use Rattle.tables.specs.Theorems.{verdict-refused}
 use Rattle.tables.specs.PartsLaws.{parts-valid, parts-held, holding-parts}
-use Rattle.tables.specs.Theorems.{has-room}
+use Rattle.snapshot.specs.RoomLaws.{has-room}
 use Rattle.records.specs.Putting.{Space, Puts}
 use Rattle.records.specs.PuttingLaws.{puts-append}
 use Rattle.writer.specs.Writing.{networkBytes, pairCount, sizeOf, recordsOf, wrote, refuses, Writes, room, unheld, full, done}
@@ -40,7 +40,7 @@ routers-range {counts} range = count-range (counts .routers) (range .routers)
 regroup : (a b c d e : List ℕ) → (a ++ (b ++ (c ++ d))) ++ e ≡ (a ++ (b ++ c)) ++ (d ++ e)
 regroup a b c d e = simp append-assoc
 
-module _ {counts : Counts} {t : Tables} (has : judging.Room t) (parts : Parts counts t) where
+module _ {counts : Counts} {t : Tables} (has : Room t) (parts : Parts counts t) where
   abbrev s : Snapshot
   s = snapshotOf counts t
 
@@ -97,23 +97,21 @@ module _ {counts : Counts} {t : Tables} (has : judging.Room t) (parts : Parts co
 -- ---- the cases of writing
 
 module _ (counts : Counts) (t : Tables) (before : List ℕ) where
-  refused-so : {n : ℕ} → Verdicts counts t n → 1 ≤ n → Writes counts t before (record { number = n; value = 0 }) before
-  refused-so (judging.room h) l = room h
-  refused-so (judging.unheld h f) l = unheld h f
-  refused-so (judging.held h g) l = absurd (omega arith)
-
   -- refused before the output is looked at
   pub writes-no : {v : Verdict} {r : Refusal} → v ≡ verdict.Refused r → Verdicts counts t (numbered v) → Writes counts t before (refuses r 0) before
-  writes-no {r} e given = refused-so (subst (λ (v : Verdict). Verdicts counts t (numbered v)) e given) (number-range r .0)
+  writes-no {r} e given = ⊎-elim
+      (λ k. subst (λ (q : Refusal). Writes counts t before (refuses q 0) before) (sym (k .0)) (room (k .1)))
+      (λ k. subst (λ (q : Refusal). Writes counts t before (refuses q 0) before) (sym (k .0)) (unheld (k .1) (k .2)))
+      (verdict-refused given r (ap numbered e))
 
   module _ (enough : T (none (short t))) (holding : Holding counts t) where
-    has : judging.Room t
+    has : Room t
     has = has-room t enough
 
     parts : Parts counts t
     parts = holding-parts has holding
 
-    pub writes-full : length before < sizeOf counts → Writes counts t before (refuses Room 0) before
+    pub writes-full : length before < sizeOf counts → Writes counts t before (refuses refusal.Room 0) before
     writes-full l =
         let size = encode-long has parts in
         full enough (snapshotOf counts t) (parts-valid has parts) (parts-held has parts) (omega arith)
@@ -136,12 +134,3 @@ module _ (counts : Counts) (t : Tables) (before : List ℕ) where
               (subst (λ (m : ℕ). Writes counts t before (wrote m) (sets before 0 (encode (snapshotOf counts t)))) (omega arith)
               (done enough (snapshotOf counts t) (parts-valid has parts) (parts-held has parts) (omega arith))),
         )
-
-good-so : {counts : Counts} {t : Tables} {n : ℕ} → Verdicts counts t n → n ≡ 0 → T (none (short t)) × Holding counts t
-good-so (judging.room h) e = absurd (omega arith)
-good-so (judging.unheld h f) e = absurd (omega arith)
-good-so (judging.held h g) e = (h, g)
-
--- not refused
-pub verdict-good : {counts : Counts} {t : Tables} {v : Verdict} → v ≡ verdict.Good → Verdicts counts t (numbered v) → T (none (short t)) × Holding counts t
-verdict-good e given = good-so given (ap numbered e)

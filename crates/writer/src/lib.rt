@@ -2,14 +2,14 @@
 ghost use mathlib.Core.Path.{_≡_};
 ghost use Prim.Native.Nat.{_+_, _*_, _-_, _≤_, _<_};
 ghost use lib.ListN.{length};
-ghost use Rattle.model.specs.Rows.{table, column};
+ghost use Rattle.model.specs.Rows.{table, column, start};
 ghost use Rattle.model.specs.Lent.{was, is, col};
 ghost use Rattle.snapshot.specs.Limits.{mostRouters, roomDistances, mostPrefixes, mostRoutes};
 ghost use Rattle.snapshot.specs.Format.{routersBytes, prefixesBytes, routesBytes};
-ghost use Rattle.snapshot.specs.Tables.{columns, tables, short};
+ghost use Rattle.snapshot.specs.Tables.{columns, tables, short, prefixTables, RoomPrefixes, Wide};
 ghost use Rattle.snapshot.specs.Ranges.{none};
 ghost use lib.Dec.{T};
-ghost use Rattle.tables.specs.Judging.{RoomRows, RoomPrefixes, prefixTables, start, routesAt, prefixAt, InRange, Holding};
+ghost use Rattle.tables.specs.Judging.{routesAt, prefixAt, InRange, Holding};
 ghost use Rattle.records.specs.Putting.{Space, Puts};
 ghost use Rattle.writer.specs.Writing.{rowBytes, rowsBytes, networkBytes, prefixFrom, prefixBytes, pairCount, sizeOf, recordsOf, said, Writes};
 use refusal::Refusal;
@@ -104,7 +104,7 @@ fn put_routes(
     out: &mut [u8],
     first: usize,
 ) -> usize
-    requires { ⌜ (row + count ≤ mostRoutes) × RoomRows (columns (now router) (now asn) (now preference) (now path) (now origin) (now mark) (now med) (now nid) (now peer)) × Space (routesBytes (routesAt (columns (now router) (now asn) (now preference) (now path) (now origin) (now mark) (now med) (now nid) (now peer)) row count)) (now out) first ⌝ }
+    requires { ⌜ (row + count ≤ mostRoutes) × Wide mostRoutes (columns (now router) (now asn) (now preference) (now path) (now origin) (now mark) (now med) (now nid) (now peer)) × Space (routesBytes (routesAt (columns (now router) (now asn) (now preference) (now path) (now origin) (now mark) (now med) (now nid) (now peer)) row count)) (now out) first ⌝ }
     ensures { λ r. ⌜ Puts (routesBytes (routesAt (columns (was router) (was asn) (was preference) (was path) (was origin) (was mark) (was med) (was nid) (was peer)) row count)) (was out) first (is out) r ⌝ }
 {
     let mut at = first;

@@ -29,7 +29,8 @@ fill-tables-spec =
     (λ c κs.
     let b : tie.After-behind-distances = search needs in
     let s = start b in
-    (omega (arith, b .behind-distances .ensures, s .pre .0 .long), s .pre .1, s .pre .2 .rest))
+    let room = s .pre .2 .prefixes in
+    (omega (arith, b .behind-distances .ensures, s .pre .0 .long), s .pre .1, record { address = room .address; bits = room .bits; routes = room .routes; rows = room .rows }))
     (λ c. let i : tie.After-fill-ids = c .before .before .before .before .before .before .before .before .before .before .before .before .before .before .before .before .before .before .before .before .before .before .before .before .before .before .before .before .before .before .before .before .before .before .before .before .before .before .before .before .before .before .before in omega (arith, i .fill-ids .kept))
     (λ c. let d : tie.After-fill-distances = c .before .before .before .before .before .before .before .before .before .before .before .before .before .before .before .before .before .before .before .before .before .before .before .before .before .before .before .before .before .before .before .before .before .before .before .before .before .before .before in omega (arith, d .fill-distances .kept))
     (λ c. let p : tie.After-fill-prefixes = c .before .before .before .before .before .before .before .before .before .before .before .before .before .before .before .before .before .before .before .before .before .before .before .before in omega (arith, p .fill-prefixes .kept))

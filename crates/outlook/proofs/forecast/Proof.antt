@@ -1,107 +1,152 @@
+-- `forecast` meets its contract: each way out is a law of OutlookLaws.antt. Assumes nothing.
 use native.Mathlib.Omega.{arith}
-use mathlib.Core.Path.{refl, ap}
+use mathlib.Core.Path.{_≡_, refl, sym, ap, subst}
+use mathlib.Core.Logic.{⊎-elim}
+use mathlib.Core.Bool.{false}
 use denote.Ref.{now}
-use Rattle.snapshot.specs.declared.Counts.{Counts}
-use Rattle.snapshot.specs.Tables.{Tables, tables, columns}
-use Rattle.tables.specs.Judging.{Room, Holding}
 use borrow.Author.Needs.{needs}
-use borrow.Author.Tests.{not-true, not-false}
-use Rattle.outlook.specs.Outlook.{room, noSnapshot, noPrefix}
-use Rattle.outlook.specs.OutlookLaws.{has-room, early-room, late-room, inside, fits-in, part-of, shown-given}
+use Rattle.refusal.specs.declared.Refusal.{Refusal}
+use Rattle.snapshot.specs.declared.Counts.{Counts}
+use Rattle.snapshot.specs.Ranges.{anyOf}
+use Rattle.snapshot.specs.Tables.{Tables, tables, columns, Room}
+use Rattle.tables.specs.Judging.{Holding, numbered}
+use Rattle.tables.specs.Theorems.{verdict-good, verdict-refused}
+use Rattle.outlook.specs.declared.Outlook.the-variants.{Refused}
+use Rattle.outlook.specs.Outlook.{shortOf, Forecasts, room, noSnapshot, noPrefix}
+use Rattle.outlook.specs.OutlookLaws.{area-short, table-short, none-short, roomy, early-room, late-room, inside, fits-in, part-of, shown-given}
 use Rattle.outlook.proofs.forecast.Statement.{statement}
 use Rattle.outlook.proofs.forecast.Tie as tie
 
 -- the tables that were lent
 abbrev lent : tie.Start → Tables
-lent a = tables (now (a .args .ids)) (now (a .args .distances)) (now (a .args .address)) (now (a .args .bits)) (now (a .args .routes)) (columns (now (a .args .router)) (now (a .args .asn)) (now (a .args .preference)) (now (a .args .path)) (now (a .args .origin)) (now (a .args .mark)) (now (a .args .med)) (now (a .args .nid)) (now (a .args .peer)))
+lent s =
+    tables (now (s .args .ids)) (now (s .args .distances)) (now (s .args .address)) (now (s .args .bits)) (now (s .args .routes))
+    (columns (now (s .args .router)) (now (s .args .asn)) (now (s .args .preference)) (now (s .args .path)) (now (s .args .origin))
+    (now (s .args .mark)) (now (s .args .med)) (now (s .args .nid)) (now (s .args .peer)))
 
 returns : tie.Need-returns
 returns c =
-    let short : tie.Then1 = search needs in
-    room (short .if1 .taken)
+    let s : tie.Start = search needs in
+    let shorter : tie.Then1 = search needs in
+    room (area-short (lent s) (now (s .args .early)) (now (s .args .late)) (shorter .if1 .taken))
 
-judge-requires : tie.Need-judge-requires
-judge-requires c κs =
-    let begun : tie.Start = search needs in
-    let long : tie.Else1 = search needs in
-    has-room (lent begun) (now (begun .args .early)) (now (begun .args .late)) (long .if1 .left)
+-- the verdict, and the entry before it
+abbrev begun : tie.After-examine → tie.Start
+begun seen = search needs
+
+abbrev long : tie.After-examine → tie.Else1
+long seen = search needs
+
+-- it refuses: ROOM, or TABLE
+returns-3 : tie.Need-returns-3
+returns-3 c =
+    let seen : tie.After-examine = search needs in
+    let told : tie.After-r = search needs in
+    let s = begun seen in
+    let early = now (s .args .early) in
+    let late = now (s .args .late) in
+    ⊎-elim
+    (λ k. subst (λ (q : Refusal). Forecasts (s .args .counts) (lent s) (s .args .prefix) early late (Refused q 0) early late) (sym (k .0)) (room (table-short (lent s) early late (k .1))))
+    (λ k. subst (λ (q : Refusal). Forecasts (s .args .counts) (lent s) (s .args .prefix) early late (Refused q 0) early late) (sym (k .0))
+    (noSnapshot (none-short (lent s) early late (long seen .if1 .left) (k .1)) (λ snapshot valid held. k .2 (record { snapshot = snapshot; valid = valid; held = held }))))
+    (verdict-refused (seen .examine .ensures) (told .r .given .0 .0) (ap numbered (told .r .given .1)))
+
+-- it is good
+abbrev seen-by : tie.After-enum-told → tie.After-examine
+seen-by told = search needs
+
+abbrev begun-by : tie.After-enum-told → tie.Start
+begun-by told = begun (seen-by told)
+
+enough : (told : tie.After-enum-told) → let s = begun-by told in anyOf (shortOf (lent s) (now (s .args .early)) (now (s .args .late))) ≡ false
+enough told =
+    let s = begun-by told in
+    none-short (lent s) (now (s .args .early)) (now (s .args .late)) (long (seen-by told) .if1 .left) (verdict-good (seen-by told .examine .ensures) (ap numbered (told .enum-told .given .1)) .0)
+
+holding : (told : tie.After-enum-told) → let s = begun-by told in Holding (s .args .counts) (lent s)
+holding told = verdict-good (seen-by told .examine .ensures) (ap numbered (told .enum-told .given .1)) .1
+
+free : (told : tie.After-enum-told) → Room (lent (begun-by told))
+free told = let s = begun-by told in roomy (lent s) (now (s .args .early)) (now (s .args .late)) (enough told)
 
 returns-2 : tie.Need-returns-2
 returns-2 c =
-    let long : tie.Else1 = search needs in
-    let asked : tie.After-judge = search needs in
-    let bad : tie.Then2 = search needs in
-    noSnapshot (long .if1 .left) (λ s v h. asked .judge .ensures .no (not-true (asked .judge .result) (bad .if2 .taken)) (record { snapshot = s; valid = v; held = h }))
+    let told : tie.After-enum-told = search needs in
+    let over : tie.Then2 = search needs in
+    let h = holding told in
+    noPrefix (enough told) (h .snapshot) (h .valid) (h .held) (omega (arith, over .if2 .taken, ap (λ (n : Counts). n .prefixes) (h .held .0)))
 
-returns-3 : tie.Need-returns-3
-returns-3 c =
-    let long : tie.Else1 = search needs in
-    let asked : tie.After-judge = search needs in
-    let good : tie.Else2 = search needs in
-    let over : tie.Then3 = search needs in
-    let holding = asked .judge .ensures .yes (not-false (asked .judge .result) (good .if2 .left)) in
-    noPrefix (long .if1 .left) (holding .snapshot) (holding .valid) (holding .held) (omega (arith, over .if3 .taken, ap (λ (n : Counts). n .prefixes) (holding .held .0)))
-
--- past the checks: what is known there
-abbrev begun : tie.Else3 → tie.Start
-begun there = search needs
-
-abbrev long : tie.Else3 → tie.Else1
-long there = search needs
-
-holding : (there : tie.Else3) → Holding (begun there .args .counts) (lent (begun there))
-holding there =
-    let asked : tie.After-judge = search needs in
-    let good : tie.Else2 = search needs in
-    asked .judge .ensures .yes (not-false (asked .judge .result) (good .if2 .left))
-
-roomy : (there : tie.Else3) → Room (lent (begun there))
-roomy there = has-room (lent (begun there)) (now (begun there .args .early)) (now (begun there .args .late)) (long there .if1 .left)
+-- there is such a prefix
+abbrev told-by : tie.Else2 → tie.After-enum-told
+told-by there = search needs
 
 start-of-requires : tie.Need-start-of-requires
 start-of-requires c κs =
-    let there : tie.Else3 = search needs in
-    let a = begun there .args in
-    let l = inside (a .counts) (lent (begun there)) (a .prefix) (roomy there) (holding there) (there .if3 .left) in
-    (omega arith, omega (arith, fits-in (a .counts) (lent (begun there)) (a .prefix) (roomy there) (holding there) (there .if3 .left)))
+    let there : tie.Else2 = search needs in
+    let told = told-by there in
+    let s = begun-by told in
+    let l = inside (s .args .counts) (lent s) (s .args .prefix) (free told) (holding told) (there .if2 .left) in
+    (omega arith, omega (arith, fits-in (s .args .counts) (lent s) (s .args .prefix) (free told) (holding told) (there .if2 .left)))
 
-shared-slice-read-end : tie.Need-shared-slice-read-end
-shared-slice-read-end c =
-    let there : tie.Else3 = search needs in
-    let a = begun there .args in
-    inside (a .counts) (lent (begun there)) (a .prefix) (roomy there) (holding there) (there .if3 .left)
+shared-slice-read-shown : tie.Need-shared-slice-read-shown
+shared-slice-read-shown c =
+    let there : tie.Else2 = search needs in
+    let told = told-by there in
+    let s = begun-by told in
+    inside (s .args .counts) (lent s) (s .args .prefix) (free told) (holding told) (there .if2 .left)
 
-add-end : tie.Need-add-end
-add-end c =
-    let there : tie.Else3 = search needs in
+add-shown : tie.Need-add-shown
+add-shown c =
+    let there : tie.Else2 = search needs in
     let found : tie.After-start-of = search needs in
-    let a = begun there .args in
-    record { fits = omega (arith, found .start-of .ensures, fits-in (a .counts) (lent (begun there)) (a .prefix) (roomy there) (holding there) (there .if3 .left)) }
+    let told = told-by there in
+    let s = begun-by told in
+    record { fits = omega (arith, found .start-of .ensures, fits-in (s .args .counts) (lent s) (s .args .prefix) (free told) (holding told) (there .if2 .left)) }
 
 shown-requires : tie.Need-shown-requires
 shown-requires c κs =
-    let there : tie.Else3 = search needs in
+    let there : tie.Else2 = search needs in
     let found : tie.After-start-of = search needs in
-    let a = begun there .args in
-    part-of (a .counts) (lent (begun there)) (a .prefix) (roomy there) (holding there) (there .if3 .left) (found .start-of .ensures) refl (now (a .early)) (now (a .late)) (early-room (lent (begun there)) (now (a .early)) (now (a .late)) (long there .if1 .left)) (late-room (lent (begun there)) (now (a .early)) (now (a .late)) (long there .if1 .left))
+    let told = told-by there in
+    let s = begun-by told in
+    let early = now (s .args .early) in
+    let late = now (s .args .late) in
+    part-of (s .args .counts) (lent s) (s .args .prefix) (free told) (holding told) (there .if2 .left) (found .start-of .ensures) refl early late
+    (early-room (lent s) early late (enough told)) (late-room (lent s) early late (enough told))
 
-abbrev past : tie.After-shown → tie.Else3
-past made = search needs
+abbrev there-by : tie.After-shown → tie.Else2
+there-by made = search needs
 
-abbrev first : tie.After-shown → tie.After-start-of
-first made = search needs
+abbrev found-by : tie.After-shown → tie.After-start-of
+found-by made = search needs
 
 returns-4 : tie.Need-returns-4
 returns-4 c =
     let made : tie.After-shown = search needs in
-    let there = past made in
-    let a = begun there .args in
-    shown-given (a .counts) (lent (begun there)) (a .prefix) (roomy there) (holding there) (there .if3 .left) (first made .start-of .ensures) refl (now (a .early)) (now (a .late)) (long there .if1 .left) (made .shown .ensures)
+    let there = there-by made in
+    let told = told-by there in
+    let s = begun-by told in
+    shown-given (s .args .counts) (lent s) (s .args .prefix) (free told) (holding told) (there .if2 .left) (found-by made .start-of .ensures) refl
+    (now (s .args .early)) (now (s .args .late)) (enough told) (made .shown .ensures)
 
 pub forecast-spec : {M : Type 1} → statement M
 forecast-spec =
-    tie.close (tie.spec returns judge-requires returns-2 returns-3 start-of-requires (λ c. search needs) shared-slice-read-end
-    (λ c.
-    let there : tie.Else3 = search needs in
-    omega (arith, c .shared-slice-known15 .given (begun there .args .prefix)))
-    add-end (λ c. search needs) shown-requires (λ c. search needs) (λ c. search needs) returns-4)
+    tie.close
+    (tie.spec
+    (λ c. search needs)
+    returns
+    (λ c κs. search needs)
+    (λ c. search needs)
+    (λ c. search needs)
+    returns-2
+    start-of-requires
+    (λ c. search needs)
+    (λ c. search needs)
+    shared-slice-read-shown
+    (λ c. let there : tie.Else2 = search needs in omega (arith, c .shared-slice-known15 .given (begun-by (told-by there) .args .prefix)))
+    add-shown
+    shown-requires
+    returns-3
+    (λ c. search needs)
+    (λ c. search needs)
+    returns-4)

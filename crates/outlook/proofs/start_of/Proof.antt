@@ -4,8 +4,8 @@ use mathlib.Core.Path.{_≡_, refl, ap, sym, _∙_}
 use denote.Ref.{now}
 use lib.ListN.{length}
 use borrow.Author.Needs.{needs}
-use Rattle.tables.specs.Judging.{start}
-use Rattle.tables.specs.JudgeLaws.{start-first, start-next, start-up}
+use Rattle.model.specs.Rows.{start}
+use Rattle.model.specs.RowLaws.{start-first, start-next, start-within}
 use Rattle.outlook.proofs.start_of.Statement.{statement}
 use Rattle.outlook.proofs.start_of.Tie as tie
 
@@ -21,7 +21,7 @@ add-sum c =
     let here : tie.At-loop Inv-loop μ-loop = search needs in
     let turn : tie.In-loop Inv-loop μ-loop = search needs in
     let routes = now (begun .args .routes) in
-    omega (arith, here .loop .inv .1, turn .loop-test .taken, start-next routes (here .loop .p), start-up routes (here .loop .p + 1) (begun .args .prefix) (omega (arith, turn .loop-test .taken)), begun .pre .1)
+    omega (arith, here .loop .inv .1, turn .loop-test .taken, start-within routes (here .loop .p) (begun .args .prefix) (turn .loop-test .taken), begun .pre .1)
 
 pub start-of-spec : {M : Type 1} → statement M
 start-of-spec =

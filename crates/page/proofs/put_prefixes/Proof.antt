@@ -4,10 +4,9 @@ use mathlib.Core.Path.{_≡_, refl, sym, ap₂, _∙_}
 use denote.Ref.{now}
 use lib.ListN.{length}
 use borrow.Author.Needs.{needs}
-use Rattle.model.specs.Rows.{column}
+use Rattle.model.specs.Rows.{column, start}
 use Rattle.model.specs.Columns.{columns, lentMesh}
-use Rattle.tables.specs.Judging.{start}
-use Rattle.tables.specs.JudgeLaws.{start-first, start-next}
+use Rattle.model.specs.RowLaws.{start-first, start-next}
 use Rattle.outlook.specs.Outlook.{cut}
 use Rattle.text.specs.TextLaws.{puts-as, Lined, lined, lined-next, lined-end, lined-room}
 use Rattle.page.specs.Page.{widestBlock, decidedText, lentText}

@@ -2,67 +2,130 @@
 use borrow.Author.Needs.{needs}
 use native.Mathlib.Omega.{arith}
 use denote.Ref.{now}
-use mathlib.Core.Path.{sym, _∙_}
-use Rattle.snapshot.specs.Tables.{Tables, columns, tables}
+use mathlib.Core.Path.{_≡_, sym, _∙_}
+use mathlib.Core.Bool.{false}
 use lib.Dec.{T}
 use lib.Pow.{areBytes}
-use Rattle.reader.specs.ReadLaws.{wide, no-room, not-sound, sound, spanned, slice-bytes}
+use Rattle.snapshot.specs.Ranges.{anyOf}
+use Rattle.snapshot.specs.RangesLaws.{none-any}
+use Rattle.snapshot.specs.RoomLaws.{has-room}
+use Rattle.snapshot.specs.Tables.{Tables, columns, tables, short}
+use Rattle.reader.specs.ReadLaws.{no-room, not-sound, sound, spanned, slice-bytes}
 use Rattle.reader.proofs.read_snapshot.Statement.{statement}
 use Rattle.reader.proofs.read_snapshot.Tie as tie
 
-abbrev start : tie.Else1 → tie.Start
-start c = c .before .before .before .before .before .before .before .before .before .before .before .before .before .before .before .before
-
 -- the tables as they were lent
 abbrev lent : tie.Start → Tables
-lent s = let a = s .args in (tables (now (a .ids)) (now (a .distances)) (now (a .address)) (now (a .bits)) (now (a .routes)) (columns (now (a .router)) (now (a .asn)) (now (a .preference)) (now (a .path)) (now (a .origin)) (now (a .mark)) (now (a .med)) (now (a .nid)) (now (a .peer))))
+lent s =
+    tables (now (s .args .ids)) (now (s .args .distances)) (now (s .args .address)) (now (s .args .bits)) (now (s .args .routes))
+    (columns (now (s .args .router)) (now (s .args .asn)) (now (s .args .preference)) (now (s .args .path)) (now (s .args .origin))
+    (now (s .args .mark)) (now (s .args .med)) (now (s .args .nid)) (now (s .args .peer)))
 
-bytes : (c : tie.Else1) → T (areBytes (now (start c .args .input)))
-bytes c = slice-bytes (now (start c .args .input)) (λ k. c .before .before .before .before .before .before .before .before .before .before .before .before .before .before .before .shared-slice-known .given k .fits)
+-- the entry, which lies far back
+abbrev start : tie.After-lacks-room → tie.Start
+start c = search needs
 
-refuses : tie.Need-returns-2
-refuses c =
-    let j : tie.After-judge = c .before .before .before in
-    not-sound (now (start (j .before) .args .input)) (lent (start (j .before))) (j .before .if1 .left) (sym (c .before .r .given .1) ∙ j .judge .ensures)
+bytes : (c : tie.After-lacks-room) → T (areBytes (now (start c .args .input)))
+bytes c = let known : tie.After-shared-slice-known = search needs in slice-bytes (now (start c .args .input)) (λ k. known .shared-slice-known .given k .fits)
 
-accepts : tie.Need-returns-3
-accepts c =
-    let f : tie.After-fill-tables = c .before .before .before .before .before .before .before .before .before .before .before .before .before .before .before .before .before .before .before .before .before .before .before .before .before .before .before .before in
-    let k : tie.After-counts = f .before .before .before .before .before .before .before .before .before .before .before .before .before .before .before .before .before .before in
-    let j : tie.After-judge = k .before .before in
-    sound (now (start (j .before) .args .input)) (lent (start (j .before))) (j .before .if1 .left) (bytes (j .before)) (sym (k .counts .given .1) ∙ j .judge .ensures) (f .fill-tables .ensures)
+-- before the tables were filled
+abbrev told : tie.After-fill-tables → tie.After-counts
+told f = search needs
+
+abbrev judged : tie.After-counts → tie.After-judge
+judged k = search needs
+
+abbrev looked : tie.Else1 → tie.After-lacks-room
+looked e = search needs
+
+-- the tables have room
+roomy : (e : tie.Else1) → anyOf (short (lent (start (looked e)))) ≡ false
+roomy e = sym (looked e .lacks-room .ensures) ∙ e .if1 .left
+
+returns : tie.Need-returns
+returns c =
+    let a : tie.After-lacks-room = search needs in
+    let t : tie.Then1 = search needs in
+    no-room (now (start a .args .input)) (lent (start a)) (sym (a .lacks-room .ensures) ∙ t .if1 .taken)
+
+fill-tables-requires : tie.Need-fill-tables-requires
+fill-tables-requires c κs =
+    let k : tie.After-counts = search needs in
+    let j = judged k in
+    let e = j .before in
+    let a = looked e in
+    let q = spanned (now (start a .args .input)) (bytes a) (sym (k .counts .given .1) ∙ j .judge .ensures) in
+    (q .0, q .1, has-room (lent (start a)) (none-any (short (lent (start a))) (roomy e)))
+
+returns-2 : tie.Need-returns-2
+returns-2 c =
+    let j : tie.After-judge = search needs in
+    let e = j .before in
+    let a = looked e in
+    not-sound (now (start a .args .input)) (lent (start a)) (roomy e) (sym (c .before .r .given .1) ∙ j .judge .ensures)
+
+returns-3 : tie.Need-returns-3
+returns-3 c =
+    let f : tie.After-fill-tables = search needs in
+    let k = told f in
+    let j = judged k in
+    let e = j .before in
+    let a = looked e in
+    sound (now (start a .args .input)) (lent (start a)) (roomy e) (bytes a) (sym (k .counts .given .1) ∙ j .judge .ensures) (f .fill-tables .ensures)
 
 pub read-snapshot-spec : {M : Type 1} → statement M
 read-snapshot-spec =
     tie.close
     (tie.spec
-    (λ c. search needs)
-    (λ c. search needs)
-    (λ c. search needs)
-    (λ c. let s = c .before .before .before .before .before .before .before .before .before .before .before .before .before .before .before .before in no-room (now (s .args .input)) (lent s) (c .if1 .taken))
     (λ c κs. search needs)
     (λ c. search needs)
     (λ c. search needs)
     (λ c. search needs)
     (λ c. search needs)
-    (λ c κs.
-    let k : tie.After-counts = c .before .before .before .before .before .before .before .before .before .before .before .before .before .before .before .before .before in
-    let j : tie.After-judge = k .before .before in
-    let q = spanned (now (start (j .before) .args .input)) (bytes (j .before)) (sym (k .counts .given .1) ∙ j .judge .ensures) in
-    (q .0, q .1, wide (lent (start (j .before))) (j .before .if1 .left)))
-    refuses
-    (λ c. let f : tie.After-fill-tables = c .before .before .before .before .before .before .before .before .before .before .before .before .before .before .before .before .before .before .before .before .before .before .before .before .before .before .before .before in omega (arith, f .fill-tables .kept))
-    (λ c. let f : tie.After-fill-tables = c .before .before .before .before .before .before .before .before .before .before .before .before .before .before .before .before .before .before .before .before .before .before .before .before .before .before .before .before in omega (arith, f .fill-tables .kept))
-    (λ c. let f : tie.After-fill-tables = c .before .before .before .before .before .before .before .before .before .before .before .before .before .before .before .before .before .before .before .before .before .before .before .before .before .before .before .before in omega (arith, f .fill-tables .kept))
-    (λ c. let f : tie.After-fill-tables = c .before .before .before .before .before .before .before .before .before .before .before .before .before .before .before .before .before .before .before .before .before .before .before .before .before .before .before .before in omega (arith, f .fill-tables .kept))
-    (λ c. let f : tie.After-fill-tables = c .before .before .before .before .before .before .before .before .before .before .before .before .before .before .before .before .before .before .before .before .before .before .before .before .before .before .before .before in omega (arith, f .fill-tables .kept))
-    (λ c. let f : tie.After-fill-tables = c .before .before .before .before .before .before .before .before .before .before .before .before .before .before .before .before .before .before .before .before .before .before .before .before .before .before .before .before in omega (arith, f .fill-tables .kept))
-    (λ c. let f : tie.After-fill-tables = c .before .before .before .before .before .before .before .before .before .before .before .before .before .before .before .before .before .before .before .before .before .before .before .before .before .before .before .before in omega (arith, f .fill-tables .kept))
-    (λ c. let f : tie.After-fill-tables = c .before .before .before .before .before .before .before .before .before .before .before .before .before .before .before .before .before .before .before .before .before .before .before .before .before .before .before .before in omega (arith, f .fill-tables .kept))
-    (λ c. let f : tie.After-fill-tables = c .before .before .before .before .before .before .before .before .before .before .before .before .before .before .before .before .before .before .before .before .before .before .before .before .before .before .before .before in omega (arith, f .fill-tables .kept))
-    (λ c. let f : tie.After-fill-tables = c .before .before .before .before .before .before .before .before .before .before .before .before .before .before .before .before .before .before .before .before .before .before .before .before .before .before .before .before in omega (arith, f .fill-tables .kept))
-    (λ c. let f : tie.After-fill-tables = c .before .before .before .before .before .before .before .before .before .before .before .before .before .before .before .before .before .before .before .before .before .before .before .before .before .before .before .before in omega (arith, f .fill-tables .kept))
-    (λ c. let f : tie.After-fill-tables = c .before .before .before .before .before .before .before .before .before .before .before .before .before .before .before .before .before .before .before .before .before .before .before .before .before .before .before .before in omega (arith, f .fill-tables .kept))
-    (λ c. let f : tie.After-fill-tables = c .before .before .before .before .before .before .before .before .before .before .before .before .before .before .before .before .before .before .before .before .before .before .before .before .before .before .before .before in omega (arith, f .fill-tables .kept))
-    (λ c. let f : tie.After-fill-tables = c .before .before .before .before .before .before .before .before .before .before .before .before .before .before .before .before .before .before .before .before .before .before .before .before .before .before .before .before in omega (arith, f .fill-tables .kept))
-    accepts)
+    (λ c. search needs)
+    (λ c. search needs)
+    (λ c. search needs)
+    (λ c. search needs)
+    (λ c. search needs)
+    (λ c. search needs)
+    (λ c. search needs)
+    (λ c. search needs)
+    (λ c. search needs)
+    (λ c. search needs)
+    returns
+    (λ c κs. search needs)
+    (λ c. search needs)
+    (λ c. search needs)
+    (λ c. search needs)
+    (λ c. search needs)
+    fill-tables-requires
+    (λ c. search needs)
+    (λ c. search needs)
+    (λ c. search needs)
+    (λ c. search needs)
+    (λ c. search needs)
+    (λ c. search needs)
+    (λ c. search needs)
+    (λ c. search needs)
+    (λ c. search needs)
+    (λ c. search needs)
+    (λ c. search needs)
+    (λ c. search needs)
+    (λ c. search needs)
+    (λ c. search needs)
+    returns-2
+    (λ c. let f : tie.After-fill-tables = search needs in omega (arith, f .fill-tables .kept))
+    (λ c. let f : tie.After-fill-tables = search needs in omega (arith, f .fill-tables .kept))
+    (λ c. let f : tie.After-fill-tables = search needs in omega (arith, f .fill-tables .kept))
+    (λ c. let f : tie.After-fill-tables = search needs in omega (arith, f .fill-tables .kept))
+    (λ c. let f : tie.After-fill-tables = search needs in omega (arith, f .fill-tables .kept))
+    (λ c. let f : tie.After-fill-tables = search needs in omega (arith, f .fill-tables .kept))
+    (λ c. let f : tie.After-fill-tables = search needs in omega (arith, f .fill-tables .kept))
+    (λ c. let f : tie.After-fill-tables = search needs in omega (arith, f .fill-tables .kept))
+    (λ c. let f : tie.After-fill-tables = search needs in omega (arith, f .fill-tables .kept))
+    (λ c. let f : tie.After-fill-tables = search needs in omega (arith, f .fill-tables .kept))
+    (λ c. let f : tie.After-fill-tables = search needs in omega (arith, f .fill-tables .kept))
+    (λ c. let f : tie.After-fill-tables = search needs in omega (arith, f .fill-tables .kept))
+    (λ c. let f : tie.After-fill-tables = search needs in omega (arith, f .fill-tables .kept))
+    (λ c. let f : tie.After-fill-tables = search needs in omega (arith, f .fill-tables .kept))
+    returns-3)

@@ -2,8 +2,7 @@
 use native.Mathlib.Omega.{arith}
 use denote.Ref.{now}
 use borrow.Author.Needs.{needs}
-use Rattle.snapshot.specs.Tables.{Tables, columns}
-use Rattle.tables.specs.Judging.{prefixTables}
+use Rattle.snapshot.specs.Tables.{Tables, columns, prefixTables}
 use Rattle.tables.specs.JudgeLaws.{decides-not, prefix-good, prefix-bad}
 use Rattle.tables.proofs.prefix_good.Statement.{statement}
 use Rattle.tables.proofs.prefix_good.Tie as tie

@@ -4,8 +4,7 @@ use native.Mathlib.Omega.{arith}
 use mathlib.Core.Path.{refl}
 use borrow.Author.Needs.{needs}
 use borrow.Author.Tests.{not-true, not-false}
-use Rattle.snapshot.specs.Tables.{columns}
-use Rattle.tables.specs.Judging.{prefixTables}
+use Rattle.snapshot.specs.Tables.{columns, prefixTables}
 use Rattle.tables.specs.JudgeLaws.{few-routers, Counting, counting, counting-next, counting-over, counting-not, counting-end}
 use Rattle.tables.proofs.prefixes_good.Statement.{statement}
 use Rattle.tables.proofs.prefixes_good.Tie as tie

@@ -7,8 +7,8 @@ use borrow.Author.Needs.{needs}
 use Rattle.model.specs.Rows.{column}
 use Rattle.snapshot.specs.Records.{prefixForm, written}
 use Rattle.snapshot.specs.Format.{routesBytes}
-use Rattle.snapshot.specs.Tables.{Tables, columns}
-use Rattle.tables.specs.Judging.{prefixTables, routesAt}
+use Rattle.snapshot.specs.Tables.{Tables, columns, prefixTables}
+use Rattle.tables.specs.Judging.{routesAt}
 use Rattle.records.specs.PuttingLaws.{puts-append, space-first, space-then}
 use Rattle.writer.proofs.put_prefix.Statement.{statement}
 use Rattle.writer.proofs.put_prefix.Tie as tie

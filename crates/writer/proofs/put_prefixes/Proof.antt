@@ -4,11 +4,11 @@ use native.Mathlib.Omega.{arith}
 use mathlib.Core.Path.{_≡_, sym}
 use denote.Ref.{now}
 use borrow.Author.Needs.{needs}
-use Rattle.model.specs.Rows.{table}
+use Rattle.model.specs.Rows.{table, start}
 use Rattle.snapshot.specs.Format.{prefixesBytes}
-use Rattle.snapshot.specs.Tables.{Tables, columns}
-use Rattle.tables.specs.Judging.{prefixTables, prefixAt, start}
-use Rattle.tables.specs.JudgeLaws.{start-first, start-next, start-within}
+use Rattle.snapshot.specs.Tables.{Tables, columns, prefixTables}
+use Rattle.tables.specs.Judging.{prefixAt}
+use Rattle.model.specs.RowLaws.{start-first, start-next, start-within}
 use Rattle.writer.specs.SectionsLaws.{Section, section, section-room, section-next, section-long, section-end, prefixesFrom, prefixes-first, prefixes-next, prefixes-last}
 use Rattle.writer.proofs.put_prefixes.Statement.{statement}
 use Rattle.writer.proofs.put_prefixes.Tie as tie

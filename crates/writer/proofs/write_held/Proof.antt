@@ -7,11 +7,11 @@ use borrow.Author.Needs.{needs}
 use Rattle.model.specs.Rows.{table}
 use Rattle.snapshot.specs.Records.{endForm, written}
 use Rattle.snapshot.specs.Format.{prefixesBytes}
-use Rattle.snapshot.specs.Tables.{Tables, tables, columns}
-use Rattle.tables.specs.Judging.{prefixAt, Room, Parts}
+use Rattle.snapshot.specs.Tables.{Tables, tables, columns, Room}
+use Rattle.tables.specs.Judging.{prefixAt, Parts}
 use Rattle.tables.specs.PartsLaws.{holding-parts}
-use Rattle.tables.specs.JudgeLaws.{few-routers, room-alone}
-use Rattle.tables.specs.Theorems.{has-room}
+use Rattle.tables.specs.JudgeLaws.{few-routers}
+use Rattle.snapshot.specs.RoomLaws.{has-room, room-alone}
 use Rattle.records.specs.Putting.{Space}
 use Rattle.records.specs.PuttingLaws.{space-first, space-then}
 use Rattle.writer.specs.Writing.{networkBytes, recordsOf}

@@ -1,8 +1,11 @@
 -- `write_snapshot` meets its contract. Assumes nothing.
+use mathlib.Core.Path.{ap}
 use denote.Ref.{now}
 use borrow.Author.Needs.{needs}
 use Rattle.snapshot.specs.Tables.{Tables, tables, columns}
-use Rattle.writer.specs.WritingLaws.{writes-no, verdict-good}
+use Rattle.tables.specs.Judging.{numbered}
+use Rattle.tables.specs.Theorems.{verdict-good}
+use Rattle.writer.specs.WritingLaws.{writes-no}
 use Rattle.writer.proofs.write_snapshot.Statement.{statement}
 use Rattle.writer.proofs.write_snapshot.Tie as tie
 
@@ -21,7 +24,7 @@ write-held-requires : tie.Need-write-held-requires
 write-held-requires c κs =
     let told : tie.After-enum-told = search needs in
     let seen : tie.After-examine = search needs in
-    verdict-good (told .enum-told .given .1) (seen .examine .ensures)
+    verdict-good (seen .examine .ensures) (ap numbered (told .enum-told .given .1))
 
 returns : tie.Need-returns
 returns c =
