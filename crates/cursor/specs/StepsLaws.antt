@@ -4,7 +4,7 @@ use native.Mathlib.Nat.{not-suc-le-zero}
 use native.Mathlib.Numerals.{add-one}
 use native.Mathlib.Omega.{arith}
 use native.Mathlib.Decide.{decLe}
-use mathlib.Core.Path.{_≡_, refl, sym, ap, ap₂, _∙_, subst}
+use mathlib.Core.Path.{_≡_, refl, sym, ap, ap₂, _∙_, subst, fun-ext}
 use mathlib.Core.Bool.{Bool, true, false, cond, not, _||_}
 use mathlib.Core.List.{List, [], _∷_, _++_}
 use lib.ListN.{length, getD, take, drop}
@@ -16,16 +16,16 @@ use Rattle.refusal.specs.declared.Refusal.the-variants.{Cut, Kind, Place, Full,
 use Rattle.model.specs.Rows.{some}
 use Rattle.snapshot.specs.Limits.{mostPrefixes, mostInPrefix, mostRoutes}
 use Rattle.snapshot.specs.Ranges.{none, prefixTests, routeTests}
-use Rattle.snapshot.specs.Records.{Form, forms, ofKind, sum, size, known, valuesAt}
-use Rattle.snapshot.specs.Format.{Snapshot, routesIn, Check, _else_, judged, Holds}
-use Rattle.snapshot.specs.Reading.{recordChecks, prefixExtra, prefixValues, routeExtra, routeValues, routeOf}
+use Rattle.snapshot.specs.Records.{Form, forms, ofKind, sum, size, known, prefixForm, routeForm, valuesAt}
+use Rattle.snapshot.specs.Format.{Snapshot, Check, _else_, judged, Holds}
+use Rattle.snapshot.specs.Reading.{recordChecks, prefixRecord, routeExtra, routeRecord, routeOf}
 use Rattle.snapshot.specs.ChecksLaws.{judged-append, judged-front}
 use Rattle.snapshot.specs.PlaceLaws.{record-at}
 use Rattle.cursor.specs.declared.Finding.{Finding}
 use Rattle.cursor.specs.declared.Finding.the-variants.{Clear, Fault}
 use Rattle.cursor.specs.declared.Body.the-variants.{Bytes, Refused}
 use Rattle.cursor.specs.declared.Sofar.{Sofar}
-use Rattle.cursor.specs.Steps.{finding, bodyOf, bodyLength, openingChecks, prefixFaults, routeFaults, Tells}
+use Rattle.cursor.specs.Steps.{finding, bodyOf, bodyLength, openingChecks, prefixRoom, prefixNext, routeRoom, routeNext, Tells}
 
 -- ---- an id among those given before
 
@@ -204,31 +204,37 @@ ltb-leb a b = go (decLe b a)
     go (yes h) = le-ltb a b h ∙ ap not (sym (le-leb b a h))
     go (no h) = lt-ltb a b (omega arith) ∙ ap not (sym (lt-leb b a (omega arith)))
 
+module _ {A : Type 0} (k : Sofar) (stop : Refusal → A) (go : Unit {0} → A) where
+  pub prefix-room : judged (prefixRoom k) stop go ≡ judged (extraChecks false (leb mostPrefixes (k .prefixes))) stop go
+  unfolding judged
+  prefix-room = ap (λ (b : Bool). judged ((b else Full) ∷ []) stop go) (ltb-leb (k .prefixes) mostPrefixes)
+
+  join : (p a b : Bool) → judged ((not p else Place) ∷ (not a else Full) ∷ (not b else Full) ∷ []) stop go ≡ judged (extraChecks p (a || b)) stop go
+  unfolding judged
+  join true a b = refl
+  join false true b = refl
+  join false false b = refl
+
+  pub route-room : judged (routeRoom k) stop go ≡ judged (extraChecks (eqb (k .prefixes) 0) (leb mostInPrefix (k .inside) || leb mostRoutes (k .routes))) stop go
+  route-room =
+      ap₂ (λ (a b : Bool). judged ((not (eqb (k .prefixes) 0) else Place) ∷ (a else Full) ∷ (b else Full) ∷ []) stop go)
+      (ltb-leb (k .inside) mostInPrefix) (ltb-leb (k .routes) mostRoutes)
+      ∙ join (eqb (k .prefixes) 0) (leb mostInPrefix (k .inside)) (leb mostRoutes (k .routes))
+
+-- where it tells what was read so far, the checks are those of the snapshot
 module _ {s : Snapshot} {k : Sofar} (t : Tells s k) where
-  pub prefix-values : (v : List ℕ) → prefixValues s v ≡ prefixFaults k (getD v 0 0) (getD v 1 0)
-  prefix-values v =
-      ap (λ (b : Bool). (none (prefixTests (getD v 0 0) (getD v 1 0)) else Field) ∷ (b else Order) ∷ []) (t .above (getD v 0 0) (getD v 1 0))
+  pub prefix-told : (bs : List ℕ) → prefixRecord s bs ≡ prefixNext k bs
+  unfolding prefixRecord prefixNext
+  prefix-told bs =
+      ap₂ (λ (n : ℕ) (values : List ℕ → List Check). recordChecks prefixForm ((ltb n mostPrefixes else Full) ∷ []) values bs)
+      (sym (t .prefixes))
+      (fun-ext (λ v. ap (λ (b : Bool). (none (prefixTests (getD v 0 0) (getD v 1 0)) else Field) ∷ (b else Order) ∷ []) (t .above (getD v 0 0) (getD v 1 0))))
 
-  pub route-values : (v : List ℕ) → routeValues s v ≡ routeFaults k (routeOf v)
-  route-values v =
-      ap₂ (λ (n : ℕ) (b : Bool). (none (routeTests n (routeOf v)) else Field) ∷ (b else Order) ∷ []) (sym (t .routers)) (t .beyond (routeOf v))
+  room-told : routeExtra s ≡ routeRoom k
+  room-told = rw (t .prefixes, t .inside, t .routes)
 
-  module _ {A : Type 0} (stop : Refusal → A) (go : Unit {0} → A) where
-    pub prefix-extra : judged (prefixExtra s) stop go ≡ judged (extraChecks false (leb mostPrefixes (k .prefixes))) stop go
-    unfolding judged
-    prefix-extra =
-        ap (λ (b : Bool). judged ((b else Full) ∷ []) stop go)
-        (ltb-leb (length (s .prefixes)) mostPrefixes ∙ ap (λ (n : ℕ). not (leb mostPrefixes n)) (sym (t .prefixes)))
-
-    join : (p a b : Bool) → judged ((not p else Place) ∷ (not a else Full) ∷ (not b else Full) ∷ []) stop go ≡ judged (extraChecks p (a || b)) stop go
-    unfolding judged
-    join true a b = refl
-    join false true b = refl
-    join false false b = refl
-
-    pub route-extra : judged (routeExtra s) stop go ≡ judged (extraChecks (eqb (k .prefixes) 0) (leb mostInPrefix (k .inside) || leb mostRoutes (k .routes))) stop go
-    route-extra =
-        ap₂ (λ (p i : ℕ). judged ((not (eqb p 0) else Place) ∷ (ltb i mostInPrefix else Full) ∷ (ltb (routesIn (s .prefixes)) mostRoutes else Full) ∷ []) stop go) (sym (t .prefixes)) (sym (t .inside))
-        ∙ ap₂ (λ (a b : Bool). judged ((not (eqb (k .prefixes) 0) else Place) ∷ (a else Full) ∷ (b else Full) ∷ []) stop go)
-        (ltb-leb (k .inside) mostInPrefix) (ltb-leb (routesIn (s .prefixes)) mostRoutes ∙ ap (λ (n : ℕ). not (leb mostRoutes n)) (sym (t .routes)))
-        ∙ join (eqb (k .prefixes) 0) (leb mostInPrefix (k .inside)) (leb mostRoutes (k .routes))
+  pub route-told : (bs : List ℕ) → routeRecord s bs ≡ routeNext k bs
+  unfolding routeRecord routeNext
+  route-told bs =
+      ap₂ (λ (room : List Check) (values : List ℕ → List Check). recordChecks routeForm room values bs) room-told
+      (fun-ext (λ v. ap₂ (λ (n : ℕ) (b : Bool). (none (routeTests n (routeOf v)) else Field) ∷ (b else Order) ∷ []) (sym (t .routers)) (t .beyond (routeOf v))))

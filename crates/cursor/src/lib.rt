@@ -8,8 +8,8 @@ ghost use lib.ListN.{length, getD, take, drop};
 ghost use Rattle.model.specs.Rows.{some};
 ghost use Rattle.snapshot.specs.Plain.{routeIs};
 ghost use Rattle.snapshot.specs.Records.{countForm, routerForm, distanceForm, prefixForm, routeForm, valuesAt};
-ghost use Rattle.snapshot.specs.Format.{Snapshot, judged, countChecks, routerChecks, distanceChecks, endChecks};
-ghost use Rattle.snapshot.specs.Reading.{countRecord, routerRecord, distanceRecord, prefixRecord, routeRecord, endRecord};
+ghost use Rattle.snapshot.specs.Format.{judged, countChecks, routerChecks, distanceChecks, endChecks};
+ghost use Rattle.snapshot.specs.Reading.{countRecord, routerRecord, distanceRecord, endRecord};
 ghost use Rattle.cursor.specs.declared.Finding.the-variants.{Fault};
 ghost use Rattle.cursor.specs.declared.Step.the-variants as step;
 ghost use Rattle.cursor.specs.declared.PrefixStep.the-variants as prefixStep;
@@ -25,9 +25,10 @@ ghost use Rattle.cursor.specs.Steps.{
   due,
   prefixFaults,
   routeFaults,
+  prefixNext,
+  routeNext,
   networkAt,
   routeAt,
-  Tells,
   tailStep,
 };
 use refusal::Refusal;
@@ -346,9 +347,9 @@ impl Cursor {
     // Kind 4: a prefix, behind what was read so far.
     pub fn prefix(self, input: &[u8], k: Sofar) -> PrefixStep
         requires { ⌜ self .records ≤ self .at ⌝ }
-        ensures { λ r. ⌜ ((s : Snapshot) → Tells s k → r ≡ judged (prefixRecord s (drop (self .at) (now (input .entry))))
+        ensures { λ r. ⌜ r ≡ judged (prefixNext k (drop (self .at) (now (input .entry))))
             (λ f. prefixStep.Refused f (self .at))
-            (λ _. prefixStep.Took (after self prefixForm) (networkAt (now (input .entry)) (self .at)))) ⌝ }
+            (λ _. prefixStep.Took (after self prefixForm) (networkAt (now (input .entry)) (self .at))) ⌝ }
     {
         let at = self.at;
         match self.opening(input, 4, false, snapshot::MOST_PREFIXES <= k.prefixes) {
@@ -366,9 +367,9 @@ impl Cursor {
     // Kind 5: a route, behind what was read so far.
     pub fn route(self, input: &[u8], k: Sofar) -> RouteStep
         requires { ⌜ self .records ≤ self .at ⌝ }
-        ensures { λ r. ⌜ ((s : Snapshot) → Tells s k → r ≡ judged (routeRecord s (drop (self .at) (now (input .entry))))
+        ensures { λ r. ⌜ r ≡ judged (routeNext k (drop (self .at) (now (input .entry))))
             (λ f. routeStep.Refused f (self .at))
-            (λ _. routeStep.Took (after self routeForm) (routeAt (now (input .entry)) (self .at)))) ⌝ }
+            (λ _. routeStep.Took (after self routeForm) (routeAt (now (input .entry)) (self .at))) ⌝ }
     {
         let at = self.at;
         let full = (snapshot::MOST_IN_PREFIX <= k.inside) | (snapshot::MOST_ROUTES <= k.routes);

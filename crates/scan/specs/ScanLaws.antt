@@ -31,7 +31,8 @@ use Rattle.cursor.specs.declared.Step.the-variants as step
 use Rattle.cursor.specs.declared.PrefixStep.the-variants as prefixStep
 use Rattle.cursor.specs.declared.RouteStep.the-variants as routeStep
 use Rattle.cursor.specs.declared.EndStep.the-variants as endStep
-use Rattle.cursor.specs.Steps.{begin, after, due, networkAt, routeAt, tailStep, lateBehind, Tells}
+use Rattle.cursor.specs.Steps.{begin, after, due, prefixNext, routeNext, networkAt, routeAt, tailStep, lateBehind, Tells}
+use Rattle.cursor.specs.StepsLaws.{prefix-told, route-told}
 use Rattle.scan.specs.declared.Read.the-variants as read
 use Rattle.scan.specs.Scan.{told, answered, Routers, Distances, Rows, Row, Items, nothing, morePrefix, moreRoute}
 
@@ -327,10 +328,10 @@ module _ {bs : List ℕ} {c : Cursor} {k : Sofar} (i : Items bs c k) where
 
   -- ---- a prefix
   module _ (is : getD bs (c .at) 0 ≡ 4) where
-    abbrev prefixStepOf : Snapshot → prefixStep.the-data
-    prefixStepOf s = judged (prefixRecord s (drop at bs)) (λ f. prefixStep.Refused f at) (λ _. prefixStep.Took (after c prefixForm) (networkAt bs at))
+    abbrev prefixStepOf : prefixStep.the-data
+    prefixStepOf = judged (prefixNext k (drop at bs)) (λ f. prefixStep.Refused f at) (λ _. prefixStep.Took (after c prefixForm) (networkAt bs at))
 
-    prefix-cases : {G : Type 0} (x : prefixStep.the-data) → ((s : Snapshot) → Tells s k → x ≡ prefixStepOf s)
+    prefix-cases : {G : Type 0} (x : prefixStep.the-data) → x ≡ prefixStepOf
         → ((r : Refusal) → prefixStep.Refused r at ≡ x → reading bs ≡ refused r at → G)
         → (Holds (prefixRecord (i .s) (drop at bs)) → prefixStep.Took (after c prefixForm) (networkAt bs at) ≡ x
         → reading bs ≡ items (withPrefixes (i .s) (i .s .prefixes ++ (prefixOf (valuesAt prefixForm bs at) ∷ []))) (at + size prefixForm) (drop (at + size prefixForm) bs) → G)
@@ -338,17 +339,17 @@ module _ {bs : List ℕ} {c : Cursor} {k : Sofar} (i : Items bs c k) where
     prefix-cases x e f g =
         judged-cases (prefixRecord (i .s) (drop at bs)) (λ f. prefixStep.Refused f at) (λ _. prefixStep.Took (after c prefixForm) (networkAt bs at))
         (λ r. refused r at) (λ _. items (withPrefixes (i .s) (i .s .prefixes ++ (prefixOf (valuesAt prefixForm bs at) ∷ []))) (at + size prefixForm) (drop (at + size prefixForm) bs))
-        x (sym (e (i .s) (i .tells)))
+        x (ap (λ (l : List Check). judged l (λ f. prefixStep.Refused f at) (λ _. prefixStep.Took (after c prefixForm) (networkAt bs at))) (prefix-told (i .tells) (drop at bs)) ∙ sym e)
         (λ r d h. f r d (i .same ∙ items-one-prefix bs at (i .s) is ∙ h))
         (λ p d h. g p d (i .same ∙ items-one-prefix bs at (i .s) is ∙ h))
 
-    pub prefix-stop : {r : Refusal} {place : ℕ} → ((s : Snapshot) → Tells s k → prefixStep.Refused r place ≡ prefixStepOf s) → read.Refused r place ≡ told (reading bs)
+    pub prefix-stop : {r : Refusal} {place : ℕ} → prefixStep.Refused r place ≡ prefixStepOf → read.Refused r place ≡ told (reading bs)
     prefix-stop {r} {place} e =
         prefix-cases (prefixStep.Refused r place) e
         (λ f d h. (let a : read.Refused r place ≡ read.Refused f at = cc in a) ∙ sym (ap told h))
         (λ p d h. absurd (let z : _≡_ {A = ℕ} 0 1 = cc in omega arith))
 
-    pub prefix-next : {next : Cursor} {p : Network} → ((s : Snapshot) → Tells s k → prefixStep.Took next p ≡ prefixStepOf s)
+    pub prefix-next : {next : Cursor} {p : Network} → prefixStep.Took next p ≡ prefixStepOf
         → (k .prefixes < mostPrefixes) × Items bs next (morePrefix k p) × (c .at < next .at) × (next .at ≤ length bs)
     unfolding prefixRecord
     prefix-next {next} {p} e =
@@ -382,13 +383,13 @@ module _ {bs : List ℕ} {c : Cursor} {k : Sofar} (i : Items bs c k) where
 
   -- ---- a route
   module _ (is : getD bs (c .at) 0 ≡ 5) where
-    abbrev routeStepOf : Snapshot → routeStep.the-data
-    routeStepOf s = judged (routeRecord s (drop at bs)) (λ f. routeStep.Refused f at) (λ _. routeStep.Took (after c routeForm) (routeAt bs at))
+    abbrev routeStepOf : routeStep.the-data
+    routeStepOf = judged (routeNext k (drop at bs)) (λ f. routeStep.Refused f at) (λ _. routeStep.Took (after c routeForm) (routeAt bs at))
 
     abbrev routed : Snapshot
     routed = withPrefixes (i .s) (addRoute (i .s .prefixes) (routeOf (valuesAt routeForm bs at)))
 
-    route-cases : {G : Type 0} (x : routeStep.the-data) → ((s : Snapshot) → Tells s k → x ≡ routeStepOf s)
+    route-cases : {G : Type 0} (x : routeStep.the-data) → x ≡ routeStepOf
         → ((r : Refusal) → routeStep.Refused r at ≡ x → reading bs ≡ refused r at → G)
         → (Holds (routeRecord (i .s) (drop at bs)) → routeStep.Took (after c routeForm) (routeAt bs at) ≡ x
         → reading bs ≡ items routed (at + size routeForm) (drop (at + size routeForm) bs) → G)
@@ -396,17 +397,17 @@ module _ {bs : List ℕ} {c : Cursor} {k : Sofar} (i : Items bs c k) where
     route-cases x e f g =
         judged-cases (routeRecord (i .s) (drop at bs)) (λ f. routeStep.Refused f at) (λ _. routeStep.Took (after c routeForm) (routeAt bs at))
         (λ r. refused r at) (λ _. items routed (at + size routeForm) (drop (at + size routeForm) bs))
-        x (sym (e (i .s) (i .tells)))
+        x (ap (λ (l : List Check). judged l (λ f. routeStep.Refused f at) (λ _. routeStep.Took (after c routeForm) (routeAt bs at))) (route-told (i .tells) (drop at bs)) ∙ sym e)
         (λ r d h. f r d (i .same ∙ items-one-route bs at (i .s) is ∙ h))
         (λ p d h. g p d (i .same ∙ items-one-route bs at (i .s) is ∙ h))
 
-    pub route-stop : {r : Refusal} {place : ℕ} → ((s : Snapshot) → Tells s k → routeStep.Refused r place ≡ routeStepOf s) → read.Refused r place ≡ told (reading bs)
+    pub route-stop : {r : Refusal} {place : ℕ} → routeStep.Refused r place ≡ routeStepOf → read.Refused r place ≡ told (reading bs)
     route-stop {r} {place} e =
         route-cases (routeStep.Refused r place) e
         (λ f d h. (let a : read.Refused r place ≡ read.Refused f at = cc in a) ∙ sym (ap told h))
         (λ p d h. absurd (let z : _≡_ {A = ℕ} 0 1 = cc in omega arith))
 
-    pub route-next : {next : Cursor} {r : Route} → ((s : Snapshot) → Tells s k → routeStep.Took next r ≡ routeStepOf s)
+    pub route-next : {next : Cursor} {r : Route} → routeStep.Took next r ≡ routeStepOf
         → (k .routes < mostRoutes) × (k .inside < mostInPrefix) × Items bs next (moreRoute k r) × (c .at < next .at) × (next .at ≤ length bs)
     unfolding routeRecord
     route-next {next} {r} e =
