@@ -16,7 +16,7 @@ use Rattle.snapshot.specs.declared.Counts.{Counts}
 use Rattle.snapshot.specs.Limits.{mostRoutes}
 use Rattle.snapshot.specs.Ranges.{anyOf}
 use Rattle.snapshot.specs.RangesLaws.{none-any}
-use Rattle.snapshot.specs.Format.{Snapshot, encode}
+use Rattle.snapshot.specs.Format.{encode}
 use Rattle.snapshot.specs.Reading.{reading}
 use Rattle.snapshot.specs.Theorems.{accepts}
 use Rattle.snapshot.specs.Tables.{Tables, short, Held}
@@ -26,7 +26,7 @@ use Rattle.scan.specs.Scan.{told}
 use Rattle.reader.specs.Read.{readAnswer, readTables}
 use Rattle.reader.specs.ReadLaws.{no-room, was-accepted, tables-left}
 use Rattle.tables.specs.Judging.{Decides, Room as Roomy}
-use Rattle.snapshot.specs.RoomLaws.{has-room, room-enough}
+use Rattle.snapshot.specs.TablesLaws.{has-room, room-enough}
 use Rattle.tables.specs.Theorems.{held-one}
 use Rattle.tables.specs.FilledLaws.{filled-held, filled-room}
 use Rattle.writer.specs.declared.Write.{Write}

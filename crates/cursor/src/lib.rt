@@ -20,7 +20,6 @@ ghost use Rattle.cursor.specs.Steps.{
   bodyOf,
   openingChecks,
   behind,
-  begin,
   after,
   due,
   prefixFaults,

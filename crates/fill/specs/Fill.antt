@@ -8,7 +8,7 @@ use lib.Dec.{leb, eqb}
 use Rattle.wire.specs.Numbers.{numberAt}
 use Rattle.model.specs.Rows.{table}
 use Rattle.model.specs.Decision.{Route}
-use Rattle.snapshot.specs.Limits.{mostRouters, stride, roomDistances, mostPrefixes, mostRoutes}
+use Rattle.snapshot.specs.Limits.{mostRouters, stride, mostRoutes}
 use Rattle.snapshot.specs.Records.{prefixForm, routeForm, size, valuesAt}
 use Rattle.snapshot.specs.Format.{Prefix, pairsBefore}
 use Rattle.snapshot.specs.Reading.{routeOf}

@@ -22,8 +22,8 @@ use Rattle.snapshot.specs.Records.{countForm, routerForm, distanceForm, prefixF
 use Rattle.snapshot.specs.RecordsLaws.{values-at, values-written}
 use Rattle.snapshot.specs.Format.{Prefix, Snapshot, Pair, pairs, pairsBefore, distance, Each, GoodId, GoodDistance, GoodRoute, GoodPrefix, Valid, records, routesIn, routesBytes, routersBytes, distancesBytes, prefixesBytes, routeFields, encode}
 use Rattle.snapshot.specs.Reading.{routeOf}
-use Rattle.snapshot.specs.ChecksLaws.{count-range}
-use Rattle.snapshot.specs.PairsLaws.{pairs-length, pairs-of, OfRouters, pair-of}
+use Rattle.snapshot.specs.ChecksLaws.{count-range, routers-few}
+use Rattle.snapshot.specs.PairsLaws.{pairs-length, pair-two, pair-of}
 use Rattle.snapshot.specs.PlaceLaws.{kind-at}
 use Rattle.snapshot.specs.WrittenLaws.{routers-size, distances-size, routes-size, encode-size}
 use Rattle.snapshot.specs.Tables.{Tables, filled, used, putDistances}
@@ -58,17 +58,12 @@ drop-distances (p ∷ ps) (d ∷ ds) rest (suc i) h e =
     ∙ sym (drop-drop (7 * i) 7 (distancesBytes (p ∷ ps) (d ∷ ds) ++ rest))
     ∙ drop-distances ps ds rest i (omega arith) (let z : suc (length ds) ≡ suc (length ps) = e in omega arith)
 
-of-at : (n : ℕ) (ps : List Pair) (d : Pair) (i : ℕ) → OfRouters n ps → i < length ps → (getD ps i d .from < n) × (getD ps i d .to < n)
-of-at n [] d i h l = absurd (not-suc-le-zero l)
-of-at n (p ∷ ps) d zero h l = (h .0, h .1)
-of-at n (p ∷ ps) d (suc i) h l = of-at n ps d i (h .2) (omega arith)
-
 module _ (s : Snapshot) (v : Valid s) where
   abbrev n : ℕ
   n = length (s .ids)
 
   few : n ≤ mostRouters
-  few = count-range n (v .count) .1
+  few = routers-few v
 
   abbrev end : List ℕ
   end = written endForm (records s ∷ [])
@@ -130,9 +125,9 @@ module _ (s : Snapshot) (v : Valid s) where
       sym (drop-drop (7 * p) (6 * n + 2) (encode s)) ∙ ap (drop (7 * p)) behind-routers ∙ drop-distances (pairs n) (s .distances) third p (omega arith) square
       ∙ ap₂ (λ (ps : List Pair) (ds : List ℕ). distancesBytes ps ds ++ third) (drop-cons (pairs n) p d (omega arith)) (drop-cons (s .distances) p 0 (omega arith)) in
       let small : x ≤ farthest = ltb-false farthest x (none-at (distanceTests x) (each-at GoodDistance [] (s .distances) 0 (v .distances) p (omega arith) .1) 0) in
-      let of = of-at n (pairs n) d p (pairs-of n) (omega arith) in
-      let from : q .from < n = of .0 in
-      let to : q .to < n = of .1 in
+      let two = pair-two n d p (omega arith) in
+      let from : q .from < n = two .from in
+      let to : q .to < n = two .to in
       let fit : Fits (distanceForm .widths) (q .from ∷ q .to ∷ x ∷ []) = (omega arith, (omega arith, (omega arith, tt))) in
       ap (numberAt 4 (encode s)) (let e : 7 * p + (6 * n + 5) ≡ 6 * n + 2 + 7 * p + 3 = omega arith in e) ∙ sym (number-drop 4 (6 * n + 2 + 7 * p) (encode s) 3)
       ∙ ap (λ (l : List ℕ). numberAt 4 l 3) here

@@ -12,8 +12,8 @@ use lib.Seq.{sets, length-sets, ext-getD}
 use lib.Dec.{leb, ltb, eqb}
 use borrow.Author.Tests.{lt-ltb, le-ltb, lt-leb, le-leb, leb-true}
 use Rattle.wire.specs.Numbers.{numberAt}
-use Rattle.model.specs.Rows.{table, span}
-use Rattle.model.specs.RowLaws.{both, table-length, table-at}
+use Rattle.model.specs.Rows.{table}
+use Rattle.model.specs.RowLaws.{both, table-length, table-at, table-snoc}
 use Rattle.model.specs.LoopLaws.{Stored, stored, stored-next, stored-skip}
 use Rattle.model.specs.Decision.{Route}
 use Rattle.snapshot.specs.Limits.{stride, mostRoutes}
@@ -23,28 +23,14 @@ use Rattle.snapshot.specs.ChecksLaws.{length-snoc, routesIn-append}
 use Rattle.snapshot.specs.Reading.{routeOf}
 use Rattle.snapshot.specs.Tables.{Columns, Tables, tables, used, putRoutes, allRoutes, Wide}
 use Rattle.fill.specs.Fill.{idsIn, distanceIn, entryIn, behindDistances, filledFrom, isRoute, routesFrom, prefixWith, prefixesFrom, Lists, lists, putPrefixes, WideLists}
+use Rattle.model.specs.ColumnLaws.{sets-append}
+use Rattle.snapshot.specs.TablesLaws.{length-all, all-append}
 
 -- ---- lists that are stored from a place on
 
-module _ {A : Type 0} where
-  pub sets-append : (l : List A) (i : ℕ) (xs ys : List A) → sets (sets l i xs) (i + length xs) ys ≡ sets l i (xs ++ ys)
-  sets-append l i [] ys = ap (λ (k : ℕ). sets l k ys) (let e : i + 0 ≡ i = omega arith in e)
-  sets-append l i (x ∷ xs) ys =
-      ap (λ (k : ℕ). sets (sets (set l i x) (suc i) xs) k ys) (let e : i + suc (length xs) ≡ suc i + length xs = omega arith in e)
-      ∙ sets-append (set l i x) (suc i) xs ys
-
-  map-append : {B : Type 0} (f : A → B) (xs ys : List A) → map f (xs ++ ys) ≡ map f xs ++ map f ys
-  map-append f [] ys = refl
-  map-append f (x ∷ xs) ys = ap (λ l. f x ∷ l) (map-append f xs ys)
-
-span-snoc : (from n : ℕ) → span from (suc n) ≡ span from n ++ ((from + n) ∷ [])
-span-snoc from zero = ap (λ (k : ℕ). k ∷ []) (let e : from ≡ from + 0 = omega arith in e)
-span-snoc from (suc n) =
-    ap {B = List ℕ} (λ l. from ∷ l) (span-snoc (suc from) n ∙ ap (λ (k : ℕ). span (suc from) n ++ (k ∷ [])) (let e : suc from + n ≡ from + suc n = omega arith in e))
-
-pub table-snoc : {A : Type 0} (n : ℕ) (f : ℕ → A) → table (suc n) f ≡ table n f ++ (f n ∷ [])
-table-snoc n f =
-    ap (map f) (span-snoc 0 n) ∙ map-append f (span 0 n) ((0 + n) ∷ []) ∙ ap (λ (k : ℕ). table n f ++ (f k ∷ [])) (let e : 0 + n ≡ n = omega arith in e)
+map-append : {A B : Type 0} (f : A → B) (xs ys : List A) → map f (xs ++ ys) ≡ map f xs ++ map f ys
+map-append f [] ys = refl
+map-append f (x ∷ xs) ys = ap (λ l. f x ∷ l) (map-append f xs ys)
 
 -- ---- ids
 
@@ -67,7 +53,7 @@ module _ {bs : List ℕ} {n : ℕ} {ids₀ : List ℕ} where
         record {
           within = omega arith;
           put = ap₂ (λ (l : List ℕ) (k : ℕ). set l k v) (s .put) long ∙ sets-append ids₀ 0 (idsIn bs i) (v ∷ [])
-              ∙ ap (λ (x : ℕ). sets ids₀ 0 (idsIn bs i ++ (x ∷ []))) e ∙ ap (sets ids₀ 0) (sym (table-snoc i f) ∙ ap (idsIn bs) (sym (add-one i)));
+              ∙ ap (λ (x : ℕ). sets ids₀ 0 (idsIn bs i ++ (x ∷ []))) e ∙ ap (sets ids₀ 0) (sym (table-snoc f i) ∙ ap (idsIn bs) (sym (add-one i)));
         }
 
     pub ids-end : n ≤ i → ids ≡ sets ids₀ 0 (idsIn bs n)
@@ -234,14 +220,6 @@ routes-inside (suc room) bs at h = go (eqb (getD bs at 0) 5) (leb (at + 24) (len
     go false b e ih = (omega arith, omega arith)
 
 -- ---- prefixes
-
-length-all : (ps : List Prefix) → length (allRoutes ps) ≡ routesIn ps
-length-all [] = refl
-length-all (p ∷ ps) = length-append (p .routes) (allRoutes ps) ∙ ap (λ (k : ℕ). length (p .routes) + k) (length-all ps)
-
-all-append : (ps qs : List Prefix) → allRoutes (ps ++ qs) ≡ allRoutes ps ++ allRoutes qs
-all-append [] qs = refl
-all-append (p ∷ ps) qs = ap (λ (l : List Route). p .routes ++ l) (all-append ps qs) ∙ sym (append-assoc (p .routes) (allRoutes ps) (allRoutes qs))
 
 -- one more prefix, behind those that stand
 put-more : (t : Lists) (ps : List Prefix) (q : Prefix)

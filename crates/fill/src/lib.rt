@@ -8,7 +8,7 @@ ghost use lib.ListN.{length, set};
 ghost use lib.Seq.{sets};
 ghost use Rattle.model.specs.Rows.{table};
 ghost use Rattle.model.specs.Lent.{was, is};
-ghost use Rattle.snapshot.specs.Limits.{mostRouters, roomDistances, mostPrefixes, mostRoutes};
+ghost use Rattle.snapshot.specs.Limits.{mostRouters, roomDistances, mostPrefixes};
 ghost use Rattle.snapshot.specs.Plain.{routeIs};
 ghost use Rattle.snapshot.specs.Tables.{columns, tables, putRoutes, Wide, Room};
 ghost use Rattle.fill.specs.Fill.{

@@ -19,6 +19,7 @@ use Rattle.model.specs.Stability.{Between, Only, differing}
 use Rattle.model.specs.Theorems.{pair-determined, settled-only}
 use Rattle.snapshot.specs.declared.Counts.{Counts}
 use Rattle.snapshot.specs.Format.{Snapshot, Valid}
+use Rattle.snapshot.specs.ChecksLaws.{refused-not-accepted, accepted-injective}
 use Rattle.snapshot.specs.Reading.{Answer, accepted, refused, reading}
 use Rattle.snapshot.specs.Theorems.{accepts}
 use Rattle.snapshot.specs.Tables.{mesh}
@@ -34,27 +35,15 @@ use Rattle.host.specs.Host.{areaBytes, refusalCode, routerBytes, rowsByt
 
 -- ---- one answer
 
-abbrev which : Answer → ℕ
-which (accepted s) = 0
-which (refused r at) = 1
-
 -- no bytes are both accepted and refused
 apart : {a : Answer} {s : Snapshot} {r : Refusal} {at : ℕ} → a ≡ accepted s → a ≡ refused r at → ⊥
-apart e f = let z : _≡_ {A = ℕ} 0 1 = ap which (sym e ∙ f) in omega arith
+apart e f = refused-not-accepted (sym f ∙ e)
 
 one-snapshot : {a : Answer} {s u : Snapshot} → a ≡ accepted s → a ≡ accepted u → u ≡ s
-one-snapshot {s = s} e f = ap of (sym f ∙ e)
-  where
-    of : Answer → Snapshot
-    of (accepted x) = x
-    of (refused r at) = s
+one-snapshot e f = accepted-injective (sym f ∙ e)
 
 one-refusal : {a : Answer} {r q : Refusal} {at place : ℕ} → a ≡ refused r at → a ≡ refused q place → r ≡ q
-one-refusal {r = r} e f = ap of (sym e ∙ f)
-  where
-    of : Answer → Refusal
-    of (accepted x) = r
-    of (refused x at) = x
+one-refusal {r = r} {q = q} {at = at} {place = place} e f = let same : refused r at ≡ refused q place = sym e ∙ f in cc
 
 -- what is read from bytes is valid
 valid-read : (bs : List ℕ) {s : Snapshot} → T (areBytes bs) → reading bs ≡ accepted s → Valid s

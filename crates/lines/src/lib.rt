@@ -8,7 +8,7 @@ ghost use Prim.Native.Nat.{_+_, _≤_, _<_};
 ghost use lib.ListN.{length};
 ghost use Rattle.model.specs.Decision.{none};
 ghost use Rattle.model.specs.Lent.{was, is, col};
-ghost use Rattle.text.specs.Text.{ascii, decimal, Puts};
+ghost use Rattle.text.specs.Text.{decimal, Puts};
 ghost use Rattle.lines.specs.Lines.{widest, headingLine, refusedLine, dotted, state, prefixLine, entry, orEntry, routerLine};
 
 // No row: what a router holds that has nothing to hold.

@@ -1,11 +1,11 @@
 -- Laws of columns: a column that code stores, which is 0 past its end, stands for the function that it was computed by.
-use Prim.Native.Nat.{ℕ, zero, suc, _<_}
+use Prim.Native.Nat.{ℕ, zero, suc, _+_, _<_}
 use native.Mathlib.Nat.{not-suc-le-zero}
 use native.Mathlib.Omega.{arith}
-use mathlib.Core.Path.{_≡_, refl, sym, _∙_}
-use mathlib.Core.List.{List, [], _∷_}
-use lib.ListN.{length, getD}
-use lib.Seq.{ext-getD}
+use mathlib.Core.Path.{_≡_, refl, sym, ap, _∙_}
+use mathlib.Core.List.{List, [], _∷_, _++_}
+use lib.ListN.{length, getD, set}
+use lib.Seq.{sets, ext-getD}
 use Rattle.model.specs.Rows.{table, column}
 use Rattle.model.specs.RowLaws.{table-at, table-length}
 
@@ -18,3 +18,8 @@ getD-inside (x ∷ xs) (suc k) d e l = getD-inside xs k d e (omega arith)
 -- a list is the table of its entries
 pub column-is : (xs : List ℕ) (f : ℕ → ℕ) → ((k : ℕ) → k < length xs → column xs k ≡ f k) → xs ≡ table (length xs) f
 column-is xs f h = ext-getD 0 xs (table (length xs) f) (sym (table-length (length xs) f)) (λ k l. h k l ∙ sym (table-at f 0 (length xs) k l))
+
+-- what is stored behind what was stored is stored with it
+pub sets-append : {A : Type 0} (l : List A) (i : ℕ) (xs ys : List A) → sets (sets l i xs) (i + length xs) ys ≡ sets l i (xs ++ ys)
+sets-append l i [] ys = ap (λ (k : ℕ). sets l k ys) (omega arith)
+sets-append l i (x ∷ xs) ys = ap (λ (k : ℕ). sets (sets (set l i x) (suc i) xs) k ys) (omega arith) ∙ sets-append (set l i x) (suc i) xs ys

@@ -286,6 +286,13 @@ module _ {test : ℕ → Bool} {rows out₀ : List ℕ} where
         long = length-set out n v ∙ s .long;
       }
 
+-- where two lists are the same from a place on, they are at it
+pub ahead-here : (xs ys : List ℕ) (i : ℕ) → drop i xs ≡ drop i ys → column xs i ≡ column ys i
+ahead-here xs ys i e = here-at xs ∙ ap (λ (rest : List ℕ). getD rest 0 0) e ∙ sym (here-at ys)
+  where
+    here-at : (zs : List ℕ) → column zs i ≡ getD (drop i zs) 0 0
+    here-at zs = ap (column zs) (omega arith) ∙ sym (getD-drop i zs 0 0)
+
 -- ---- the same in place
 pub record Squeeze (test : ℕ → Bool) (rows₀ : List ℕ) (i n : ℕ) (rows : List ℕ) : Type 0 where
   pub at : Pack test rows₀ rows₀ i n rows
@@ -301,10 +308,7 @@ module _ {test : ℕ → Bool} {rows₀ : List ℕ} where
 
     -- the row at i is not stored over yet
     pub squeeze-here : column rows i ≡ column rows₀ i
-    squeeze-here = here-at rows ∙ ap (λ (rest : List ℕ). getD rest 0 0) (s .ahead) ∙ sym (here-at rows₀)
-      where
-        here-at : (xs : List ℕ) → column xs i ≡ getD (drop i xs) 0 0
-        here-at xs = ap (column xs) (omega arith) ∙ sym (getD-drop i xs 0 0)
+    squeeze-here = ahead-here rows rows₀ i (s .ahead)
 
     squeeze-ahead : drop (i + 1) rows ≡ drop (i + 1) rows₀
     squeeze-ahead = sym (drop-drop 1 i rows) ∙ ap (drop 1) (s .ahead) ∙ drop-drop 1 i rows₀

@@ -4,7 +4,7 @@ use native.Mathlib.Nat.{not-suc-le-zero}
 use native.Mathlib.Omega.{arith}
 use mathlib.Core.Path.{_≡_, refl, sym, ap, ap₂, subst, _∙_}
 use mathlib.Core.Logic.{_⊎_, inl, inr, ⊎-elim}
-use mathlib.Core.Bool.{Bool, true, false, cond, _&&_, _||_, not, false≢true}
+use mathlib.Core.Bool.{Bool, true, false, cond, _&&_, _||_, not, false≢true, true≢false}
 use mathlib.Core.List.{List, [], _∷_, _++_, map}
 use lib.Dec.{T, eqb, eqb→eq, eqb-refl, T-not, not-T}
 use lib.ListN.{length, getD, length-map, List·getD-eq-default}
@@ -24,6 +24,10 @@ by false f g = g refl
 pub or-cases : (a b : Bool) → T (a || b) → T a ⊎ T b
 or-cases true b h = inl tt
 or-cases false b h = inr h
+
+pub or-false : (a b : Bool) → (a || b) ≡ false → (a ≡ false) × (b ≡ false)
+or-false true b e = absurd (true≢false e)
+or-false false b e = (refl, e)
 
 pub or-left : (a b : Bool) → T a → T (a || b)
 or-left true b h = tt
@@ -420,6 +424,34 @@ module _ (key : ℕ → ℕ) where
   pub tallies : (rows : List ℕ) (n : ℕ) → total (table n (tally rows)) ≤ length rows
   tallies [] n = none 0 n
   tallies (q ∷ rows) n = omega (arith, tally-in q rows 0 n, tallies rows n)
+
+-- ---- tables joined
+
+module _ {A : Type 0} (f : ℕ → A) where
+  span-append : (from m n : ℕ) → map f (span from (m + n)) ≡ map f (span from m) ++ map f (span (from + m) n)
+  span-append from zero n =
+      ap (λ (k : ℕ). map f (span from k)) (let e : 0 + n ≡ n = omega arith in e) ∙ ap (λ (k : ℕ). map f (span k n)) (let e : from ≡ from + 0 = omega arith in e)
+  span-append from (suc m) n =
+      ap (λ (k : ℕ). map f (span from k)) (let e : suc m + n ≡ suc (m + n) = omega arith in e)
+      ∙ ap (λ (l : List A). f from ∷ l) (span-append (suc from) m n)
+      ∙ ap (λ (k : ℕ). f from ∷ (map f (span (suc from) m) ++ map f (span k n))) (let e : suc from + m ≡ from + suc m = omega arith in e)
+
+  span-shift : (m from n : ℕ) → map f (span (m + from) n) ≡ map (λ k. f (m + k)) (span from n)
+  span-shift m from zero = refl
+  span-shift m from (suc n) =
+      ap (λ (l : List A). f (m + from) ∷ l)
+      (ap (λ (k : ℕ). map f (span k n)) (let e : suc (m + from) ≡ m + suc from = omega arith in e) ∙ span-shift m (suc from) n)
+
+  pub table-append : (m n : ℕ) → table (m + n) f ≡ table m f ++ table n (λ k. f (m + k))
+  table-append m n =
+      span-append 0 m n
+      ∙ ap (λ (k : ℕ). table m f ++ map f (span k n)) (let e : 0 + m ≡ m + 0 = omega arith in e)
+      ∙ ap (λ (l : List A). table m f ++ l) (span-shift m 0 n)
+
+  pub table-snoc : (n : ℕ) → table (suc n) f ≡ table n f ++ (f n ∷ [])
+  table-snoc n =
+      ap (λ (k : ℕ). table k f) (let e : suc n ≡ n + 1 = omega arith in e) ∙ table-append n 1
+      ∙ ap (λ (k : ℕ). table n f ++ (f k ∷ [])) (let e : n + 0 ≡ n = omega arith in e)
 
 -- ---- where the parts of a list begin
 

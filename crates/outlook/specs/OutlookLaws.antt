@@ -3,7 +3,7 @@ use Prim.Native.Nat.{ℕ, _+_, _-_, _≤_, _<_}
 use native.Mathlib.Omega.{arith}
 use mathlib.Core.Path.{_≡_, refl, sym, ap, ap₂, subst, _∙_, fun-ext}
 use mathlib.Core.Logic.{_↔_, inl, inr}
-use mathlib.Core.Bool.{Bool, true, false, _||_, not, true≢false, false≢true}
+use mathlib.Core.Bool.{Bool, true, false, _||_, not, true≢false}
 use mathlib.Core.List.{List, _++_, map}
 use lib.ListN.{length, getD, drop, length-map, List·getD-eq-default}
 use lib.Dec.{T, eqb, ltb}
@@ -17,9 +17,10 @@ use Rattle.snapshot.specs.Format.{Snapshot, Valid}
 use Rattle.snapshot.specs.Limits.{mostRouters, mostRoutes}
 use Rattle.snapshot.specs.Ranges.{anyOf, none}
 use Rattle.snapshot.specs.RangesLaws.{none-any}
-use Rattle.snapshot.specs.RoomLaws.{has-room}
+use Rattle.snapshot.specs.TablesLaws.{has-room}
 use Rattle.snapshot.specs.Tables.{Tables, short, Room, Held, routesOf, mesh}
-use Rattle.tables.specs.Theorems.{held-one, held-ids, held-distance, held-count, held-fits, held-column, routers-few, routes-few, absent-zero, sound}
+use Rattle.snapshot.specs.ChecksLaws.{routers-few}
+use Rattle.tables.specs.Theorems.{held-one, held-ids, held-distance, held-count, held-fits, held-column, routes-few, absent-zero, sound}
 use Rattle.tables.specs.Judging.{Holding}
 use Rattle.model.specs.Rows.{keep, span, table, column, start}
 use Rattle.model.specs.Decision.{Route, Mesh, metric, choice}
@@ -32,7 +33,7 @@ use Rattle.model.specs.RowLaws.{by, table-length}
 use Rattle.model.specs.Theorems.{forecast, pair-determined, settled-only}
 use Rattle.outlook.specs.declared.Differing.{Differing}
 use Rattle.outlook.specs.declared.Outlook.{Outlook}
-use Rattle.outlook.specs.declared.Outlook.the-variants.{Forecast, Refused}
+use Rattle.outlook.specs.declared.Outlook.the-variants.{Forecast}
 use Rattle.outlook.specs.Outlook.{Forecasts, room, noSnapshot, noPrefix, given, differingOf, shortOf, cut, Decided, Shown, Part}
 
 -- ---- room

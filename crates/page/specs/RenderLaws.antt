@@ -25,7 +25,7 @@ use Rattle.snapshot.specs.Theorems.{accepts}
 use Rattle.snapshot.specs.Tables.{Tables, short, Held, mesh, Room}
 use Rattle.scan.specs.declared.Read.the-variants as read
 use Rattle.tables.specs.Judging.{Holding}
-use Rattle.snapshot.specs.RoomLaws.{has-room}
+use Rattle.snapshot.specs.TablesLaws.{has-room}
 use Rattle.tables.specs.FilledLaws.{filled-held, filled-room}
 use Rattle.outlook.specs.Outlook.{cut}
 use Rattle.outlook.specs.OutlookLaws.{whole, part-of, n-is, same-parts, lent, pair}

@@ -35,6 +35,7 @@ use Rattle.cursor.specs.Steps.{begin, after, due, prefixNext, routeNext, networ
 use Rattle.cursor.specs.StepsLaws.{prefix-told, route-told}
 use Rattle.scan.specs.declared.Read.the-variants as read
 use Rattle.scan.specs.Scan.{told, answered, Routers, Distances, Rows, Row, Items, nothing, morePrefix, moreRoute}
+use Rattle.snapshot.specs.ReturnsLaws.{open-last}
 
 -- a record's body lies within the input
 within-body : (bs : List ℕ) (at : ℕ) (k : ℕ) → T (leb (suc k) (length (drop at bs))) → at + suc k ≤ length bs
@@ -247,11 +248,6 @@ late-some : (m a b x y : ℕ) → not (lateBehind (m + 1) a b x y) ≡ rises a b
 late-some m a b x y =
     ap (λ (z : Bool). not (not z && not (rises a b x y))) (ne-eqb (m + 1) 0 (let z : m + 1 ≡ 0 → ⊥ = λ e. omega arith in z)) ∙ not-not (rises a b x y)
 
-open-snoc : (ps : List Prefix) (p : Prefix) → openRoutes (ps ++ (p ∷ [])) ≡ p .routes
-open-snoc [] p = refl
-open-snoc (q ∷ []) p = refl
-open-snoc (q ∷ r ∷ ps) p = open-snoc (r ∷ ps) p
-
 open-add : (p : Prefix) (ps : List Prefix) (r : model.Route) → openRoutes (addRoute (p ∷ ps) r) ≡ openRoutes (p ∷ ps) ++ (r ∷ [])
 open-add p [] r = refl
 open-add p (q ∷ []) r = refl
@@ -273,7 +269,7 @@ module _ {s : Snapshot} {k : Sofar} (t : Tells s k) where
       let ps : List Prefix = s .prefixes in
       let one = length-snoc ps q in
       let count : k .prefixes ≡ length ps = t .prefixes in
-      let none : openRoutes (ps ++ (q ∷ [])) ≡ [] = open-snoc ps q in
+      let none : openRoutes (ps ++ (q ∷ [])) ≡ [] = open-last ps q in
       let sum = routesIn-append ps (q ∷ []) in
       let routes : k .routes ≡ routesIn ps = t .routes in
       record {

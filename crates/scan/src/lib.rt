@@ -1,13 +1,13 @@
 // The first pass over a snapshot: the whole input is judged, section by section, and no table is touched.
 ghost use mathlib.Core.Path.{_≡_};
-ghost use Prim.Native.Nat.{_+_, _≤_, _<_};
+ghost use Prim.Native.Nat.{_+_, _<_};
 ghost use mathlib.Core.Logic.{_≢_};
 ghost use mathlib.Core.List.{[]};
 ghost use lib.ListN.{getD, replicate};
 ghost use Rattle.snapshot.specs.Limits.{mostRouters, mostPrefixes, mostInPrefix, mostRoutes};
 ghost use Rattle.snapshot.specs.Format.{pairs};
 ghost use Rattle.snapshot.specs.Reading.{reading};
-ghost use Rattle.scan.specs.Scan.{told, answered, Went, Routers, Distances, Rows, Items, nothing, morePrefix, moreRoute, Follows};
+ghost use Rattle.scan.specs.Scan.{told, Went, Routers, Distances, Rows, Items, morePrefix, moreRoute, Follows};
 use cursor::Cursor;
 use cursor::EndStep;
 use cursor::Network;

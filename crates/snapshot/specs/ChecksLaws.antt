@@ -14,7 +14,7 @@ use Rattle.snapshot.specs.Limits.{mostRouters, mostInPrefix}
 use Rattle.snapshot.specs.Ranges.{none, countTests}
 use Rattle.snapshot.specs.RangesLaws.{none-at}
 use Rattle.snapshot.specs.Records.{Form, distanceForm, prefixForm, routeForm, routerForm, written, size, known, kind, values}
-use Rattle.snapshot.specs.Format.{Prefix, Snapshot, Pair, Check, _else_, judged, Holds, latest, Each, GoodRoute, GoodPrefix, routesIn, routesBytes, routersBytes, distancesBytes, prefixesBytes, routeFields, encodeOpen}
+use Rattle.snapshot.specs.Format.{Prefix, Snapshot, Pair, Check, _else_, judged, Holds, latest, Each, GoodRoute, GoodPrefix, routesIn, routesBytes, routersBytes, distancesBytes, prefixesBytes, routeFields, encodeOpen, Valid}
 use Rattle.snapshot.specs.Reading.{Answer, accepted, refused, unless, either, isNil, recordChecks, openRoutes, addRoute, withPrefixes}
 
 -- ---- checks
@@ -91,6 +91,10 @@ count-range n t =
     let z = eqb-false n 0 (none-at (countTests n) t 0) in
     let m : n ≤ mostRouters = ltb-false mostRouters n (none-at (countTests n) t 1) in
     (omega arith, m)
+
+-- a valid snapshot has at most 64 routers
+pub routers-few : {s : Snapshot} → Valid s → length (s .ids) ≤ mostRouters
+routers-few {s} valid = count-range (length (s .ids)) (valid .count) .1
 
 -- ---- answers
 

@@ -19,4 +19,4 @@ pub mod LongestLaws
 pub mod Theorems
 pub mod Plain
 pub mod Tables
-pub mod RoomLaws
+pub mod TablesLaws

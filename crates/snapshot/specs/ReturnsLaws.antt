@@ -17,7 +17,7 @@ use Rattle.snapshot.specs.Format.{Prefix, Snapshot, Pair, pairs, Check, 
 use Rattle.snapshot.specs.Reading.{Answer, accepted, openRoutes, addRoute, prefixOf, routeOf, recordChecks, prefixExtra, prefixValues, prefixRecord, routeExtra, routeValues, routeRecord, endValues, endRecord, items, distanceValues, distanceRecord, distances, routerValues, routerRecord, routers, countValues, countRecord, reading}
 use Rattle.snapshot.specs.ChecksLaws.{judged-passed, passing, count-range, length-snoc, snoc-some, routesIn-append}
 use Rattle.snapshot.specs.SectionsLaws.{items-prefix, items-route, items-end}
-use Rattle.snapshot.specs.PairsLaws.{OfRouters, pairs-of, pairs-length}
+use Rattle.snapshot.specs.PairsLaws.{AllTwo, pairs-two, pairs-length}
 
 -- ---- a record that was written passes its checks
 
@@ -34,7 +34,7 @@ record-passes f extra checks vs rest some fit free h =
 
 -- ---- prefixes and their routes
 
-open-last : (ps : List Prefix) (p : Prefix) → openRoutes (ps ++ (p ∷ [])) ≡ p .routes
+pub open-last : (ps : List Prefix) (p : Prefix) → openRoutes (ps ++ (p ∷ [])) ≡ p .routes
 open-last [] p = refl
 open-last (q ∷ []) p = refl
 open-last (q ∷ r ∷ ps) p = open-last (r ∷ ps) p
@@ -119,7 +119,7 @@ module _ (ids ds : List ℕ) where
 
 module _ (ids : List ℕ) (few : length ids ≤ mostRouters) where
   distances-back : (a : Answer) (due : List Pair) (ds more : List ℕ) (at : ℕ) (rest : List ℕ)
-      → OfRouters (length ids) due → length more ≡ length due → Each GoodDistance ds more
+      → AllTwo (length ids) due → length more ≡ length due → Each GoodDistance ds more
       → ((at′ : ℕ) → items (record { ids = ids; distances = ds ++ more; prefixes = [] }) at′ rest ≡ a)
       → distances due ids ds at (distancesBytes due more ++ rest) ≡ a
   unfolding distances distanceRecord
@@ -130,14 +130,14 @@ module _ (ids : List ℕ) (few : length ids ≤ mostRouters) where
       let vs : List ℕ = p .from ∷ p .to ∷ d ∷ [] in
       let after : List ℕ = distancesBytes due more ++ rest in
       let small : d ≤ farthest = ltb-false farthest d (none-at (distanceTests d) (good .0) 0) in
-      let from : p .from < length ids = of .0 in
-      let to : p .to < length ids = of .1 in
+      let from : p .from < length ids = of .0 .from in
+      let to : p .to < length ids = of .0 .to in
       let fit : Fits (distanceForm .widths) vs = (omega arith, (omega arith, (omega arith, tt))) in
       judged-passed (distanceRecord (length ids) p (written distanceForm vs ++ after)) _ _
       (record-passes distanceForm [] (distanceValues (length ids) p) vs after tt fit tt
       (none-cons (leb (length ids) (p .to) ∷ distanceTests d) (lt-leb (length ids) (p .from) from) (none-cons (distanceTests d) (lt-leb (length ids) (p .to) to) (good .0)), (eqb-refl (p .from), (eqb-refl (p .to), tt))))
       ∙ ap (λ (v : List ℕ). distances due ids (ds ++ (getD v 2 0 ∷ [])) (at + 7) after) (values-written distanceForm vs after fit)
-      ∙ distances-back a due (ds ++ (d ∷ [])) more (at + 7) rest (of .2) (omega arith) (good .1) (λ at′. rw append-assoc (next at′))
+      ∙ distances-back a due (ds ++ (d ∷ [])) more (at + 7) rest (of .1) (omega arith) (good .1) (λ at′. rw append-assoc (next at′))
 
 -- ---- the routers
 
@@ -188,7 +188,7 @@ reading-back s v =
     (record-passes countForm [] countValues (n ∷ []) rest tt fit tt (v .count, tt))
     ∙ ap (λ (vs : List ℕ). routers (getD vs 0 0) (getD vs 0 0) [] 2 rest) (values-written countForm (n ∷ []) rest fit)
     ∙ routers-back n few (accepted s) [] ids 2 second (omega arith) (v .ids)
-    (λ at. distances-back ids few (accepted s) (pairs n) [] (s .distances) at third (pairs-of n)
+    (λ at. distances-back ids few (accepted s) (pairs n) [] (s .distances) at third (pairs-two n)
     (v .square ∙ sym (pairs-length n)) (v .distances)
     (λ at. prefixes-back ids (s .distances) (s .prefixes) records-fit [] (s .prefixes) at refl
     (let l : length (s .prefixes) ≤ mostPrefixes = v .fewPrefixes in omega arith)

@@ -14,7 +14,7 @@ use Rattle.snapshot.specs.Format.{Snapshot, distance, Valid}
 use Rattle.snapshot.specs.Tables.{Columns, Tables, used, putDistances, putRoutes, allRoutes, filled, countsOf, Held, Room, Wide}
 use Rattle.snapshot.specs.ChecksLaws.{count-range}
 use Rattle.tables.specs.ListsLaws.{sets-twice}
-use Rattle.tables.specs.HeldLaws.{length-all}
+use Rattle.snapshot.specs.TablesLaws.{length-all}
 use Rattle.tables.specs.PartsLaws.{tables-are, columns-are}
 
 -- ---- to fill twice is to fill once

@@ -2,62 +2,27 @@
 use Prim.Native.Nat.{ℕ, zero, suc, _+_, _-_, _*_, _/_, _%_, _≤_, _<_}
 use native.Mathlib.Nat.{not-suc-le-zero}
 use native.Mathlib.Omega.{arith}
-use mathlib.Core.Path.{_≡_, refl, sym, ap, _∙_, subst}
+use mathlib.Core.Path.{_≡_, refl, sym, ap, _∙_}
 use mathlib.Core.Logic.{_≢_}
 use mathlib.Core.Bool.{Bool, true, cond}
-use mathlib.Core.List.{List, [], _∷_, _++_, map, append-assoc}
-use lib.ListN.{length, getD, take, length-map, length-append, List·getD-append}
+use mathlib.Core.List.{List, [], _∷_, map}
+use lib.ListN.{length, getD, take, length-map, List·getD-append}
 use lib.Seq.{sets, ext-getD, take-suc, getD-append-add}
 use lib.Dec.{eqb}
 use lib.Arith.{digits-lt, digits-div, digits-mod}
-use borrow.Author.Tests.{lt-ltb, eq-eqb, ne-eqb, eqb-true, eqb-false}
+use borrow.Author.Tests.{lt-ltb, eq-eqb, ne-eqb}
 use Rattle.model.specs.Rows.{table, column, start}
 use Rattle.model.specs.Decision.{Route}
-use Rattle.model.specs.RowLaws.{table-at, table-same, by}
+use Rattle.model.specs.RowLaws.{table-at, table-same}
 use Rattle.snapshot.specs.declared.Counts.{Counts}
 use Rattle.snapshot.specs.Limits.{mostRouters, stride, mostPrefixes, mostRoutes}
 use Rattle.snapshot.specs.Format.{Prefix, Snapshot, Pair, row, rows, pairs, pairsBefore, distance, routesIn, Valid}
 use Rattle.snapshot.specs.Tables.{Columns, Tables, used, putDistances, allRoutes, filled, Held, Room}
-use Rattle.snapshot.specs.ChecksLaws.{count-range, routesIn-append}
-use Rattle.snapshot.specs.PairsLaws.{row-equal, row-other, pairs-length, pair-at, pair-of}
+use Rattle.snapshot.specs.ChecksLaws.{routers-few, routesIn-append}
+use Rattle.snapshot.specs.PairsLaws.{pairs-length, pair-two, pair-at, pair-of}
 use Rattle.tables.specs.Judging.{routeAt, routesAt, prefixAt, cell, snapshotOf, Below}
 use Rattle.tables.specs.ListsLaws.{as-table, map-at, stands}
-
--- ---- the pairs of n routers
-
--- two routers, not one
-pub record Two (n : ℕ) (p : Pair) : Type 0 where
-  pub from : p .from < n
-  pub to : p .to < n
-  pub apart : p .from ≢ p .to
-
-abbrev AllTwo : ℕ → List Pair → Type 0
-AllTwo n [] = Unit {0}
-AllTwo n (p ∷ ps) = Two n p × AllTwo n ps
-
-two-append : (n : ℕ) (ps qs : List Pair) → AllTwo n ps → AllTwo n qs → AllTwo n (ps ++ qs)
-two-append n [] qs h k = k
-two-append n (p ∷ ps) qs h k = (h .0, two-append n ps qs (h .1) k)
-
-two-row : (n from to left : ℕ) → from < n → to + left ≤ n → AllTwo n (row from to left)
-two-row n from to zero h k = tt
-two-row n from to (suc left) h k =
-    let later = two-row n from (suc to) left h (omega arith) in
-    by (eqb from to)
-    (λ e. subst (AllTwo n) (sym (row-equal from to left (eqb-true from to e))) later)
-    (λ e. subst (AllTwo n) (sym (row-other from to left (eqb-false from to e))) (record { from = h; to = omega arith; apart = eqb-false from to e }, later))
-
-two-rows : (n from left : ℕ) → from + left ≤ n → AllTwo n (rows n from left)
-two-rows n from zero h = tt
-two-rows n from (suc left) h = two-append n (row from 0 n) (rows n (suc from) left) (two-row n from 0 n (omega arith) (omega arith)) (two-rows n (suc from) left (omega arith))
-
-two-at : (n : ℕ) (d : Pair) (ps : List Pair) → AllTwo n ps → (k : ℕ) → k < length ps → Two n (getD ps k d)
-two-at n d [] h k l = absurd (not-suc-le-zero l)
-two-at n d (p ∷ ps) h zero l = h .0
-two-at n d (p ∷ ps) h (suc k) l = two-at n d ps (h .1) k (omega arith)
-
-pub pair-two : (n : ℕ) (d : Pair) (k : ℕ) → k < length (pairs n) → Two n (getD (pairs n) k d)
-pair-two n d k l = two-at n d (pairs n) (two-rows n 0 n (omega arith)) k l
+use Rattle.snapshot.specs.TablesLaws.{length-all}
 
 -- ---- distances
 
@@ -110,14 +75,6 @@ no-route = record { router = 0; asn = 0; preference = 0; path = 0; origin = 0; m
 pub no-prefix : Prefix
 no-prefix = record { address = 0; bits = 0; routes = [] }
 
-pub length-all : (ps : List Prefix) → length (allRoutes ps) ≡ routesIn ps
-length-all [] = refl
-length-all (p ∷ ps) = let e = length-append (p .routes) (allRoutes ps) in let ih = length-all ps in omega arith
-
-pub all-append : (ps qs : List Prefix) → allRoutes (ps ++ qs) ≡ allRoutes ps ++ allRoutes qs
-all-append [] qs = refl
-all-append (p ∷ ps) qs = ap (λ (l : List Route). p .routes ++ l) (all-append ps qs) ∙ sym (append-assoc (p .routes) (allRoutes ps) (allRoutes qs))
-
 -- the routes of a prefix stand behind those of the prefixes below it
 all-at : (ps : List Prefix) (p k : ℕ) → p < length ps → k < length (getD ps p no-prefix .routes)
     → (routesIn (take p ps) + k < routesIn ps) × (getD (allRoutes ps) (routesIn (take p ps) + k) no-route ≡ getD (getD ps p no-prefix .routes) k no-route)
@@ -163,9 +120,6 @@ snapshot-is s e1 e2 e3 = rw (← e1, ← e2, ← e3)
 -- ---- the only snapshot
 
 module _ {counts : Counts} {t : Tables} {s : Snapshot} (room : Room t) (valid : Valid s) (held : Held counts t s) where
-  pub few : length (s .ids) ≤ mostRouters
-  few = count-range (length (s .ids)) (valid .count) .1
-
   pub n-is : counts .routers ≡ length (s .ids)
   n-is = ap (λ (c : Counts). c .routers) (held .0)
 
@@ -173,11 +127,11 @@ module _ {counts : Counts} {t : Tables} {s : Snapshot} (room : Room t) (valid : 
   ids-are =
       as-table 0 (s .ids)
       ∙ table-same (λ k. getD (s .ids) k 0) (column (t .ids)) (length (s .ids))
-      (stands (t .ids) (s .ids) (omega (arith, few)) (ap (λ (u : Tables). u .ids) (held .1)))
+      (stands (t .ids) (s .ids) (omega (arith, routers-few valid)) (ap (λ (u : Tables). u .ids) (held .1)))
 
   pub cell-is : (from to : ℕ) → from < length (s .ids) → to < length (s .ids) → cell (t .distances) from to ≡ distance s from to
   cell-is from to h k =
-      ap (λ (u : Tables). cell (u .distances) from to) (sym (held .1)) ∙ filled-there s (t .distances) from to h k few (room .distances)
+      ap (λ (u : Tables). cell (u .distances) from to) (sym (held .1)) ∙ filled-there s (t .distances) from to h k (routers-few valid) (room .distances)
 
   distances-are : s .distances ≡ cells (t .distances) (length (s .ids))
   distances-are =

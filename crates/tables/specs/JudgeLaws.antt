@@ -1,26 +1,24 @@
 -- Laws by which the loops of judging are proved: what a test that passed, or failed, says of the part that it judges.
 use Prim.Native.Nat.{ℕ, zero, suc, _+_, _-_, _^_, _≤_, _<_, zero-le}
 use native.Mathlib.Omega.{arith}
-use native.Mathlib.Nat.{le-refl}
 use native.Mathlib.Numerals.{add-one}
 use mathlib.Core.Path.{_≡_, refl, sym, ap, ap₂, _∙_, subst}
 use mathlib.Core.Bool.{Bool, true, false, not, _||_, true≢false, false≢true}
 use mathlib.Core.List.{List, []}
-use mathlib.Core.Logic.{_⊎_, inl, inr}
 use lib.ListN.{length}
 use lib.Dec.{T, eqb, leb, ltb}
 use borrow.Author.Count.{below-none, below-more}
-use borrow.Author.Tests.{eq-eqb, ne-eqb, eqb-true, eqb-false, le-ltb, ltb-false, leb-true, leb-false, not-true, not-false}
+use borrow.Author.Tests.{eq-eqb, ne-eqb, eqb-true, eqb-false, le-ltb, ltb-false, leb-false, not-true, not-false}
 use Rattle.model.specs.Rows.{some, table, column, start}
 use Rattle.model.specs.Decision.{Route}
-use Rattle.model.specs.RowLaws.{table-length, by, start-first, start-next, start-within}
+use Rattle.model.specs.RowLaws.{table-length, start-first, start-next, start-within, or-false, test-true}
 use Rattle.snapshot.specs.declared.Counts.{Counts}
 use Rattle.snapshot.specs.Limits.{mostRouters, farthest, mostPrefixes, mostInPrefix, mostRoutes, lastAsn, longestPath, lastOrigin}
 use Rattle.snapshot.specs.Ranges.{none, anyOf, countTests, idTests, prefixTests, routeTests, rises, risesRoute}
 use Rattle.snapshot.specs.RangesLaws.{none-any, none-at}
 use Rattle.snapshot.specs.Records.{routeForm, Fits}
 use Rattle.snapshot.specs.Format.{GoodId, GoodRoute, Each, latest, routeFields}
-use Rattle.snapshot.specs.Tables.{Columns, Tables, prefixTables, RoomPrefixes}
+use Rattle.snapshot.specs.Tables.{Columns, Tables}
 use Rattle.snapshot.specs.ChecksLaws.{count-range}
 use Rattle.tables.specs.Judging.{routeAt, routesAt, prefixAt, cell, lateAt, CellGood, RouteGood, PrefixGood, Below, InRange, Totalled, Decides}
 use Rattle.tables.specs.ListsLaws.{latest-table, each-below, below-each, none-table, some-more, table-none}
@@ -75,10 +73,6 @@ module _ {test : ℕ → Bool} {f : ℕ → ℕ} {n : ℕ} where
 
 -- ---- tests
 
-or-false : (a b : Bool) → (a || b) ≡ false → (a ≡ false) × (b ≡ false)
-or-false true b e = absurd (true≢false e)
-or-false false b e = (refl, e)
-
 pub off : (b : Bool) → T (not b) → b ≡ false
 off true t = absurd t
 off false t = refl
@@ -86,10 +80,7 @@ off false t = refl
 off-yes : {b : Bool} → b ≡ false → T (not b)
 off-yes e = subst (λ (b : Bool). T (not b)) (sym e) tt
 
--- a list of tests of which one holds, or none
-tests-bad : {b : Bool} (bs : List Bool) → b ≡ anyOf bs → b ≡ true → T (none bs) → ⊥
-tests-bad bs e h t = false≢true (sym (off (anyOf bs) t) ∙ sym e ∙ h)
-
+-- a list of tests of which none holds
 tests-good : {b : Bool} (bs : List Bool) → b ≡ anyOf bs → b ≡ false → T (none bs)
 tests-good bs e h = none-any bs (sym e ∙ h)
 
@@ -171,11 +162,7 @@ not-off : {b : Bool} (c : Bool) → b ≡ not c → b ≡ false → T c
 not-off c e h = subst T (sym (not-false c (sym e ∙ h))) tt
 
 not-on : {b : Bool} (c : Bool) → b ≡ not c → T c → b ≡ false
-not-on c e t = e ∙ ap not (on c t)
-  where
-    on : (c : Bool) → T c → c ≡ true
-    on true t = refl
-    on false t = absurd t
+not-on c e t = e ∙ ap not (test-true c t)
 
 -- ---- routes
 

@@ -1,19 +1,18 @@
 -- Judging tables: the only snapshot that counts and tables can hold, and what a judgement says of them.
-use Prim.Native.Nat.{ℕ, zero, suc, _+_, _-_, _*_, _≤_, _<_}
+use Prim.Native.Nat.{ℕ, _+_, _-_, _*_, _≤_, _<_}
 use mathlib.Core.Path.{_≡_}
 use mathlib.Core.Bool.{Bool, true, false, cond, not, _&&_}
-use mathlib.Core.List.{List, [], _∷_, map}
-use lib.ListN.{length}
+use mathlib.Core.List.{List, _∷_, map}
 use lib.Dec.{T, eqb}
 use Rattle.refusal.specs.declared.Refusal.the-variants as refusal
 use Rattle.refusal.specs.Numbers.{numberOf}
 use Rattle.model.specs.Rows.{table, column, start}
 use Rattle.model.specs.Decision.{Route}
 use Rattle.snapshot.specs.declared.Counts.{Counts}
-use Rattle.snapshot.specs.Limits.{mostRouters, stride, roomDistances, mostPrefixes, mostRoutes}
+use Rattle.snapshot.specs.Limits.{stride, mostPrefixes, mostRoutes}
 use Rattle.snapshot.specs.Ranges.{anyOf, none, countTests, distanceTests, rises}
 use Rattle.snapshot.specs.Format.{Prefix, Snapshot, pairs, GoodId, GoodRoute, GoodPrefix, Valid}
-use Rattle.snapshot.specs.Tables.{Columns, Tables, tables, short, Held}
+use Rattle.snapshot.specs.Tables.{Columns, Tables, short, Held}
 use Rattle.tables.specs.declared.Verdict.{Verdict}
 use Rattle.tables.specs.declared.Verdict.the-variants.{Good, Refused}
 

@@ -9,41 +9,16 @@ use lib.ListN.{length, getD, take, drop, take-append-drop, List·getD-append}
 use lib.Seq.{sets, sets-eq, length-sets, drop-append-seam, ext-getD, getD-drop, getD-take}
 use lib.ListN.{length-take, length-drop}
 use Rattle.model.specs.Rows.{some, span, table, column}
-use Rattle.model.specs.RowLaws.{table-length, table-at, table-same, by}
+use Rattle.model.specs.RowLaws.{table-length, table-at, table-same, by, table-snoc}
 use Rattle.snapshot.specs.Format.{Each, latest}
 use Rattle.snapshot.specs.ChecksLaws.{latest-snoc}
 use Rattle.tables.specs.Judging.{Below}
 
--- ---- tables joined, and seen as lists
+-- ---- tables seen as lists
 
 module _ {A : Type 0} (f : ℕ → A) where
-  span-append : (from m n : ℕ) → map f (span from (m + n)) ≡ map f (span from m) ++ map f (span (from + m) n)
-  span-append from zero n =
-      ap (λ (k : ℕ). map f (span from k)) (let e : 0 + n ≡ n = omega arith in e) ∙ ap (λ (k : ℕ). map f (span k n)) (let e : from ≡ from + 0 = omega arith in e)
-  span-append from (suc m) n =
-      ap (λ (k : ℕ). map f (span from k)) (let e : suc m + n ≡ suc (m + n) = omega arith in e)
-      ∙ ap (λ (l : List A). f from ∷ l) (span-append (suc from) m n)
-      ∙ ap (λ (k : ℕ). f from ∷ (map f (span (suc from) m) ++ map f (span k n))) (let e : suc from + m ≡ from + suc m = omega arith in e)
-
-  span-shift : (m from n : ℕ) → map f (span (m + from) n) ≡ map (λ k. f (m + k)) (span from n)
-  span-shift m from zero = refl
-  span-shift m from (suc n) =
-      ap (λ (l : List A). f (m + from) ∷ l)
-      (ap (λ (k : ℕ). map f (span k n)) (let e : suc (m + from) ≡ m + suc from = omega arith in e) ∙ span-shift m (suc from) n)
-
-  pub table-append : (m n : ℕ) → table (m + n) f ≡ table m f ++ table n (λ k. f (m + k))
-  table-append m n =
-      span-append 0 m n
-      ∙ ap (λ (k : ℕ). table m f ++ map f (span k n)) (let e : 0 + m ≡ m + 0 = omega arith in e)
-      ∙ ap (λ (l : List A). table m f ++ l) (span-shift m 0 n)
-
-  pub table-snoc : (n : ℕ) → table (suc n) f ≡ table n f ++ (f n ∷ [])
-  table-snoc n =
-      ap (λ (k : ℕ). table k f) (let e : suc n ≡ n + 1 = omega arith in e) ∙ table-append n 1
-      ∙ ap (λ (k : ℕ). table n f ++ (f k ∷ [])) (let e : n + 0 ≡ n = omega arith in e)
-
   pub latest-table : (test : A → Bool) (n : ℕ) → latest test (table (suc n) f) ≡ test (f n)
-  latest-table test n = ap (latest test) (table-snoc n) ∙ latest-snoc test (table n f) (f n)
+  latest-table test n = ap (latest test) (table-snoc f n) ∙ latest-snoc test (table n f) (f n)
 
 -- a list is the table of its members
 pub as-table : {A : Type 0} (d : A) (xs : List A) → xs ≡ table (length xs) (λ k. getD xs k d)

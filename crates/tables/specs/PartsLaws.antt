@@ -11,7 +11,7 @@ use lib.Dec.{T, eqb, ltb}
 use borrow.Author.Tests.{ltb-true, eqb-true, eqb-false, eq-eqb, not-false}
 use Rattle.model.specs.Rows.{span, table, column, start}
 use Rattle.model.specs.Decision.{Route}
-use Rattle.model.specs.RowLaws.{table-length, table-at, table-same, by, both}
+use Rattle.model.specs.RowLaws.{table-length, table-at, table-same, by, both, table-append, table-snoc}
 use Rattle.snapshot.specs.declared.Counts.{Counts}
 use Rattle.snapshot.specs.Limits.{stride, mostRoutes}
 use Rattle.snapshot.specs.Ranges.{none, distanceTests}
@@ -19,10 +19,11 @@ use Rattle.snapshot.specs.RangesLaws.{none-cons, none-split}
 use Rattle.snapshot.specs.Format.{Snapshot, Pair, pairs, pairsBefore, distance, routesIn, Each, GoodId, GoodDistance, GoodPrefix, Valid}
 use Rattle.snapshot.specs.Tables.{Columns, Tables, columns, tables, used, putDistances, putRoutes, allRoutes, Held, Room, Wide}
 use Rattle.snapshot.specs.ChecksLaws.{count-range}
-use Rattle.snapshot.specs.PairsLaws.{pairs-length, pair-of}
+use Rattle.snapshot.specs.PairsLaws.{pairs-length, pair-two, pair-of}
 use Rattle.tables.specs.Judging.{routeAt, prefixAt, cell, snapshotOf, Below, cellTests, CellGood, IdGood, InRange, Totalled, Parts, Decides, Holding, Judged}
-use Rattle.tables.specs.ListsLaws.{table-append, table-snoc, as-table, map-at, each-below, below-each, stays}
-use Rattle.tables.specs.HeldLaws.{pair-two, no-pair, cells, cells-at, distance-apart, distance-equal, length-all, all-append, held-is, cell-is, n-is}
+use Rattle.tables.specs.ListsLaws.{as-table, map-at, each-below, below-each, stays}
+use Rattle.snapshot.specs.TablesLaws.{length-all, all-append}
+use Rattle.tables.specs.HeldLaws.{no-pair, cells, cells-at, distance-apart, distance-equal, held-is, cell-is, n-is}
 
 -- ---- a cell of the distances
 

@@ -5,7 +5,7 @@ use native.Mathlib.Omega.{arith}
 use mathlib.Core.Path.{_≡_, refl, sym, ap, _∙_, subst, fun-ext}
 use mathlib.Core.Logic.{_⊎_, inl, inr, ⊎-elim}
 use mathlib.Core.Bool.{Bool, true, false, _&&_}
-use mathlib.Core.List.{List, [], _∷_, map, map-map}
+use mathlib.Core.List.{List, [], map, map-map}
 use lib.ListN.{length, getD, take, drop}
 use lib.Dec.{T, eqb, ltb}
 use borrow.Author.Tests.{leb-false, eq-eqb, eqb-false}
@@ -20,18 +20,18 @@ use Rattle.model.specs.Stability.{Sound}
 use Rattle.model.specs.SoundLaws.{Rising, rising-sound}
 use Rattle.model.specs.RowLaws.{table-length, table-at, start-within}
 use Rattle.snapshot.specs.declared.Counts.{Counts}
-use Rattle.snapshot.specs.Limits.{mostRouters, mostInPrefix, mostRoutes}
+use Rattle.snapshot.specs.Limits.{mostInPrefix, mostRoutes}
 use Rattle.snapshot.specs.Ranges.{anyOf, none, routeTests, rises, risesRoute}
 use Rattle.snapshot.specs.RangesLaws.{none-at}
 use Rattle.snapshot.specs.Format.{Prefix, Snapshot, Each, GoodId, GoodRoute, GoodPrefix, distance, Valid}
 use Rattle.snapshot.specs.Tables.{Tables, short, Held, routesOf, mesh, Room}
-use Rattle.snapshot.specs.ChecksLaws.{count-range}
+use Rattle.snapshot.specs.ChecksLaws.{routers-few}
 use Rattle.tables.specs.declared.Verdict.{Verdict}
 use Rattle.tables.specs.declared.Verdict.the-variants.{Good, Refused}
 use Rattle.tables.specs.Judging as judging
 use Rattle.tables.specs.Judging.{routeAt, routesAt, prefixAt, cell, Decides, Holding, numbered, Verdicts}
 use Rattle.tables.specs.ListsLaws.{map-at, as-table, each-below, latest-table, table-none, table-part, table-take}
-use Rattle.tables.specs.HeldLaws.{no-prefix, no-route, few, n-is, cell-is, held-is}
+use Rattle.tables.specs.HeldLaws.{no-prefix, no-route, n-is, cell-is, held-is}
 use Rattle.tables.specs.PartsLaws.{and-zero, holding-parts}
 use Rattle.tables.specs.JudgeLaws.{off}
 
@@ -91,7 +91,7 @@ module _ {counts : Counts} {t : Tables} {s : Snapshot} (room : Room t) (valid : 
   pub held-ids : take (counts .routers) (t .ids) ≡ s .ids
   held-ids =
       let e = n-is room valid held in
-      let l = few room valid held in
+      let l = routers-few valid in
       sym (table-take (t .ids) (counts .routers) (omega arith)) ∙ ap (λ (u : Snapshot). u .ids) (sym (held-is room valid held))
 
   -- the distances
@@ -137,10 +137,6 @@ module _ {counts : Counts} {t : Tables} {s : Snapshot} (room : Room t) (valid : 
 -- ---- a prefix of a valid snapshot
 
 module _ {s : Snapshot} (valid : Valid s) where
-  -- at most 64 routers
-  pub routers-few : length (s .ids) ≤ mostRouters
-  routers-few = count-range (length (s .ids)) (valid .count) .1
-
   id-alone : (a b : ℕ) → a < b → b < length (s .ids) → column (s .ids) a ≡ column (s .ids) b → ⊥
   id-alone a b h l e =
       let id : ℕ → ℕ = column (s .ids) in

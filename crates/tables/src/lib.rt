@@ -7,9 +7,8 @@ ghost use lib.Dec.{eqb, ltb};
 ghost use Rattle.model.specs.Rows.{some, table, column, start};
 ghost use Rattle.model.specs.Lent.{was, col};
 ghost use Rattle.snapshot.specs.Limits.{mostRouters, roomDistances, farthest, mostPrefixes, mostRoutes};
-ghost use Rattle.snapshot.specs.Ranges.{anyOf};
 ghost use Rattle.snapshot.specs.Plain.{routeIs};
-ghost use Rattle.snapshot.specs.Tables.{columns, tables, short, prefixTables, RoomPrefixes, Room, Wide};
+ghost use Rattle.snapshot.specs.Tables.{columns, tables, prefixTables, RoomPrefixes, Room, Wide};
 ghost use Rattle.tables.specs.Judging.{routeAt, lateAt, IdGood, CellGood, RouteGood, PrefixGood, Below, InRange, Totalled, Decides, Judged, numbered, Verdicts};
 
 // What is found of counts and tables: they hold a snapshot, or a refusal.

@@ -4,8 +4,8 @@ use native.Mathlib.Nat.{sub-zero, mul-suc, mul-le-mul-left, div-one, div-div-eq-
 use native.Mathlib.Numerals.{add-one}
 use native.Mathlib.Omega.{arith}
 use mathlib.Core.Path.{_≡_, refl, sym, ap, ap₂, subst, _∙_}
-use mathlib.Core.Bool.{Bool, true, false, cond}
-use mathlib.Core.Logic.{_⊎_, inl, inr}
+use mathlib.Core.Bool.{Bool, cond}
+use mathlib.Core.Logic.{inl, inr}
 use mathlib.Core.List.{List, [], _∷_, _++_, append-assoc, append-nil}
 use lib.Dec.{ltb, lit<}
 use lib.ListN.{length, getD, set, take, length-set, length-append}
@@ -15,12 +15,9 @@ use Rattle.model.specs.NumberLaws.{le-or-lt}
 use Rattle.model.specs.LoopLaws.{rest, rest-next, rest-end}
 use borrow.Author.Tests.{lt-ltb, le-ltb}
 use Rattle.text.specs.Text.{digits, widthFrom, width, decimal, each, Puts}
+use Rattle.model.specs.ColumnLaws.{sets-append}
 
 module _ {A : Type 0} where
-  pub sets-append : (l : List A) (i : ℕ) (us vs : List A) → sets (sets l i us) (i + length us) vs ≡ sets l i (us ++ vs)
-  sets-append l i [] vs = ap (λ (k : ℕ). sets l k vs) (omega arith)
-  sets-append l i (u ∷ us) vs = ap (λ (k : ℕ). sets (sets (set l i u) (suc i) us) k vs) (omega arith) ∙ sets-append (set l i u) (suc i) us vs
-
   -- an entry before those that are put may be put last
   pub set-sets : (l : List A) (i j : ℕ) (v : A) (vs : List A) → i < j → set (sets l j vs) i v ≡ sets (set l i v) j vs
   set-sets l i j v [] h = refl

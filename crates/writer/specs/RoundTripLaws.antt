@@ -21,7 +21,7 @@ use Rattle.tables.specs.Judging.{snapshotOf}
 use Rattle.tables.specs.ListsLaws.{sets-front}
 use Rattle.tables.specs.HeldLaws.{held-is}
 use Rattle.tables.specs.FilledLaws.{filled-held, filled-room}
-use Rattle.snapshot.specs.RoomLaws.{has-room, room-enough}
+use Rattle.snapshot.specs.TablesLaws.{has-room, room-enough}
 use Rattle.tables.specs.Theorems.{held-one}
 use Rattle.writer.specs.declared.Write.{Write}
 use Rattle.writer.specs.declared.Write.the-variants.{Written, Refused}

@@ -25,7 +25,7 @@ use Rattle.tables.specs.declared.Verdict.{Verdict}
 use Rattle.tables.specs.declared.Verdict.the-variants as verdict
 use Rattle.tables.specs.Theorems.{verdict-refused}
 use Rattle.tables.specs.PartsLaws.{parts-valid, parts-held, holding-parts}
-use Rattle.snapshot.specs.RoomLaws.{has-room}
+use Rattle.snapshot.specs.TablesLaws.{has-room}
 use Rattle.records.specs.Putting.{Space, Puts}
 use Rattle.records.specs.PuttingLaws.{puts-append}
 use Rattle.writer.specs.Writing.{networkBytes, pairCount, sizeOf, recordsOf, wrote, refuses, Writes, room, unheld, full, done}

@@ -1,8 +1,8 @@
 -- `group::first_spared` meets its contract. No row before q is spared. Assumes nothing.
 use Prim.Native.Nat.{_-_}
 use native.Mathlib.Omega.{arith}
-use mathlib.Core.Path.{sym, ap, _∙_}
-use mathlib.Core.Bool.{Bool, not}
+use mathlib.Core.Path.{sym, _∙_}
+use mathlib.Core.Bool.{not}
 use lib.ListN.{length}
 use lib.Dec.{ltb}
 use denote.Ref.{now}

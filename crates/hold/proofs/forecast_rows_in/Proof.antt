@@ -1,5 +1,5 @@
 -- `hold::forecast_rows_in` meets its contract. What is held where the routers stand at rest is the early and the late assignment. Assumes nothing.
-use Prim.Native.Nat.{ℕ, _<_}
+use Prim.Native.Nat.{ℕ}
 use mathlib.Core.Path.{_≡_, sym, ap, _∙_}
 use mathlib.Core.List.{List}
 use lib.ListN.{length}

@@ -1,7 +1,6 @@
 use native.Mathlib.Omega.{arith}
 use borrow.Author.Needs.{needs}
 use borrow.Author.Tests.{eq-eqb, ne-eqb}
-use Rattle.text.specs.TextLaws.{puts-then}
 use Rattle.lines.proofs.put_state.Statement.{statement}
 use Rattle.lines.proofs.put_state.Tie as tie
 

@@ -8,7 +8,7 @@ use lib.Dec.{T}
 use lib.Pow.{areBytes}
 use Rattle.snapshot.specs.Ranges.{anyOf}
 use Rattle.snapshot.specs.RangesLaws.{none-any}
-use Rattle.snapshot.specs.RoomLaws.{has-room}
+use Rattle.snapshot.specs.TablesLaws.{has-room}
 use Rattle.snapshot.specs.Tables.{Tables, columns, tables, short}
 use Rattle.reader.specs.ReadLaws.{no-room, not-sound, sound, spanned, slice-bytes}
 use Rattle.reader.proofs.read_snapshot.Statement.{statement}

@@ -9,7 +9,6 @@ use denote.Ref.{now}
 use borrow.Author.Needs.{needs}
 use Rattle.model.specs.Rows.{table, column}
 use Rattle.model.specs.RowLaws.{table-length}
-use Rattle.model.specs.Columns.{mostRows}
 use Rattle.model.specs.Listing.{groupBy, countsIn, gathered, groupsIn, standsAt, settledBy, restIn, Ready}
 use Rattle.model.specs.ListLaws.{inside-long}
 use Rattle.stand.proofs.rest_rows.Statement.{statement}

@@ -8,7 +8,7 @@ use Rattle.snapshot.specs.Ranges.{none}
 use Rattle.snapshot.specs.RangesLaws.{none-any}
 use Rattle.snapshot.specs.Tables.{Tables, tables, columns, short}
 use Rattle.tables.specs.Judging.{room, unheld, held}
-use Rattle.snapshot.specs.RoomLaws.{has-room}
+use Rattle.snapshot.specs.TablesLaws.{has-room}
 use Rattle.tables.proofs.examine.Statement.{statement}
 use Rattle.tables.proofs.examine.Tie as tie
 

@@ -3,7 +3,7 @@ use native.Mathlib.Omega.{arith}
 use borrow.Author.Needs.{needs}
 use borrow.Author.Tests.{not-true, not-false}
 use Rattle.tables.specs.PartsLaws.{judged-no, judged-last}
-use Rattle.snapshot.specs.RoomLaws.{room-alone}
+use Rattle.snapshot.specs.TablesLaws.{room-alone}
 use Rattle.tables.specs.JudgeLaws.{few-routers}
 use Rattle.tables.proofs.judge.Statement.{statement}
 use Rattle.tables.proofs.judge.Tie as tie

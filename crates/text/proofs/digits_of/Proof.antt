@@ -1,7 +1,6 @@
 use native.Mathlib.Omega.{arith}
 use native.Mathlib.Nat.{div-lt-self}
 use lib.Dec.{lit<}
-use borrow.Author.Needs.{needs}
 use Rattle.text.specs.TextLaws.{Tried, tried, tried-next, tried-fits, tried-end}
 use Rattle.text.proofs.digits_of.Statement.{statement}
 use Rattle.text.proofs.digits_of.Tie as tie

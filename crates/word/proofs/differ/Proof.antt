@@ -1,5 +1,4 @@
 -- Both rows are inside, so what stands for the others does not matter.
-use native.Mathlib.Omega.{arith}
 use denote.Ref.{now}
 use borrow.Author.Needs.{needs}
 use Rattle.model.specs.Decision.{none}

@@ -11,7 +11,7 @@ use Rattle.snapshot.specs.Tables.{Tables, tables, columns, Room}
 use Rattle.tables.specs.Judging.{prefixAt, Parts}
 use Rattle.tables.specs.PartsLaws.{holding-parts}
 use Rattle.tables.specs.JudgeLaws.{few-routers}
-use Rattle.snapshot.specs.RoomLaws.{has-room, room-alone}
+use Rattle.snapshot.specs.TablesLaws.{has-room, room-alone}
 use Rattle.records.specs.Putting.{Space}
 use Rattle.records.specs.PuttingLaws.{space-first, space-then}
 use Rattle.writer.specs.Writing.{networkBytes, recordsOf}

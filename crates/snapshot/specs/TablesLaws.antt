@@ -1,12 +1,17 @@
--- Tables have room exactly where none is shorter than its limit.
-use mathlib.Core.Path.{_≡_}
+-- Laws of the lent tables: they have room exactly where none is shorter than its limit; and the routes of all prefixes.
+use Prim.Native.Nat.{_+_}
+use native.Mathlib.Omega.{arith}
+use mathlib.Core.Path.{_≡_, refl, sym, ap, _∙_}
 use mathlib.Core.Bool.{Bool, false}
-use mathlib.Core.List.{List, [], _∷_}
+use mathlib.Core.List.{List, [], _∷_, _++_, append-assoc}
 use lib.Dec.{T}
+use lib.ListN.{length, length-append}
+use Rattle.model.specs.Decision.{Route}
 use borrow.Author.Tests.{ltb-false, le-ltb}
 use Rattle.snapshot.specs.Ranges.{none}
 use Rattle.snapshot.specs.RangesLaws.{none-at, none-cons}
-use Rattle.snapshot.specs.Tables.{Tables, prefixTables, short, RoomPrefixes, Room}
+use Rattle.snapshot.specs.Tables.{Tables, prefixTables, short, RoomPrefixes, Room, allRoutes}
+use Rattle.snapshot.specs.Format.{Prefix, routesIn}
 
 -- where no table is shorter than its limit, each has its room
 pub has-room : (t : Tables) → T (none (short t)) → Room t
@@ -78,3 +83,13 @@ room-enough t room =
 -- the tables of prefixes have their room alone
 pub room-alone : {t : Tables} → RoomPrefixes t → RoomPrefixes (prefixTables (t .address) (t .bits) (t .routes) (t .rows))
 room-alone room = record { address = room .address; bits = room .bits; routes = room .routes; rows = room .rows }
+
+-- ---- the routes of all prefixes
+
+pub length-all : (ps : List Prefix) → length (allRoutes ps) ≡ routesIn ps
+length-all [] = refl
+length-all (p ∷ ps) = let e = length-append (p .routes) (allRoutes ps) in let ih = length-all ps in omega arith
+
+pub all-append : (ps qs : List Prefix) → allRoutes (ps ++ qs) ≡ allRoutes ps ++ allRoutes qs
+all-append [] qs = refl
+all-append (p ∷ ps) qs = ap (λ (l : List Route). p .routes ++ l) (all-append ps qs) ∙ sym (append-assoc (p .routes) (allRoutes ps) (allRoutes qs))
