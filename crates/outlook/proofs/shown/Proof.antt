@@ -1,6 +1,6 @@
 use Prim.Native.Nat.{_-_}
 use native.Mathlib.Omega.{arith}
-use mathlib.Core.Path.{refl, sym, _∙_}
+use mathlib.Core.Path.{refl}
 use denote.Ref.{now}
 use lib.ListN.{length-take}
 use lib.Seq.{length-take-le}
@@ -16,7 +16,7 @@ decided-requires c κs =
     let begun : tie.Start = search needs in
     let e = length-take-le (begun .args .routers) (now (begun .args .early)) (begun .pre .earlies) in
     let l = length-take-le (begun .args .routers) (now (begun .args .late)) (begun .pre .lates) in
-    (placed-again (sym e) (now (begun .args .ids)) (now (begun .args .distances)) (cut (begun .args .first) (begun .args .end - begun .args .first) (columns (now (begun .args .router)) (now (begun .args .asn)) (now (begun .args .preference)) (now (begun .args .path)) (now (begun .args .origin)) (now (begun .args .med)) (now (begun .args .nid)) (now (begun .args .peer)))) (begun .pre .placed), l ∙ sym e)
+    (placed-again (omega (arith, e, l)) (now (begun .args .ids)) (now (begun .args .distances)) (cut (begun .args .first) (begun .args .end - begun .args .first) (columns (now (begun .args .router)) (now (begun .args .asn)) (now (begun .args .preference)) (now (begun .args .path)) (now (begun .args .origin)) (now (begun .args .med)) (now (begun .args .nid)) (now (begun .args .peer)))) (begun .pre .placed), omega (arith, e, l))
 
 abbrev begun-of : tie.After-decided → tie.Start
 begun-of made = search needs
@@ -26,7 +26,8 @@ returns c =
     let made : tie.After-decided = search needs in
     let begun = begun-of made in
     let e = length-take-le (begun .args .routers) (now (begun .args .early)) (begun .pre .earlies) in
-    shown-again (sym e) (now (begun .args .ids)) (now (begun .args .distances)) (cut (begun .args .first) (begun .args .end - begun .args .first) (columns (now (begun .args .router)) (now (begun .args .asn)) (now (begun .args .preference)) (now (begun .args .path)) (now (begun .args .origin)) (now (begun .args .med)) (now (begun .args .nid)) (now (begun .args .peer)))) (begun .pre .earlies) (begun .pre .lates) refl refl (made .decided .ensures)
+    let l = length-take-le (begun .args .routers) (now (begun .args .late)) (begun .pre .lates) in
+    shown-again (omega (arith, e, l)) (now (begun .args .ids)) (now (begun .args .distances)) (cut (begun .args .first) (begun .args .end - begun .args .first) (columns (now (begun .args .router)) (now (begun .args .asn)) (now (begun .args .preference)) (now (begun .args .path)) (now (begun .args .origin)) (now (begun .args .med)) (now (begun .args .nid)) (now (begun .args .peer)))) (begun .pre .earlies) (begun .pre .lates) refl refl (made .decided .ensures)
 
 pub shown-spec : {M : Type 1} → statement M
 shown-spec =
