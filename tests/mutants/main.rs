@@ -1,5 +1,5 @@
 //! Lists mutants of the proved code: mutants SEED NUMBER FILE.. prints so many small edits, each of one line (or of two
-//! that follow each other) in the body of one function, as file, line, function, kind and the new text, between tabs.
+//! that follow each other) in the body of one function, as file, line, how many lines, function, kind and the new text, between tabs.
 //! Every function has its turn before one has a second. The seed and a function's own text say in which order its edits
 //! come, so that a change elsewhere does not exchange them.
 
@@ -142,7 +142,7 @@ fn edits(file: &str, body: &Body, seed: u64) -> Vec<Mutant> {
         if let Some(next) = body.lines.get(at + 1) {
             let [one, two] = [line, next].map(|line| line.trim().trim_end_matches(','));
             if body.types.contains_key(one) && body.types.get(one) == body.types.get(two) && one != two {
-                add(2, "argument", format!("{next}\\n{line}"));
+                add(2, "argument", format!("{next}\u{1f}{line}"));
             }
         }
         let statement = line.trim();
