@@ -1,7 +1,6 @@
-//! Lists mutants of the proved code: mutants SEED NUMBER FILE.. prints so many small edits, each of one line (or of two
-//! that follow each other) in the body of one function, as file, line, how many lines, function, kind and the new text, between tabs.
-//! Every function has its turn before one has a second. The seed and a function's own text say in which order its edits
-//! come, so that a change elsewhere does not exchange them.
+//! Lists mutants of the proved code: mutants SEED EACH FILE.. prints so many small edits of each function, each of one line
+//! (or of two that follow each other) in its body, as file, line, how many lines, function, kind and the new text, between
+//! tabs. The seed and the function's own text choose them, so that a change elsewhere does not exchange them.
 
 use std::collections::{HashMap, HashSet};
 
@@ -36,24 +35,21 @@ fn chance(seed: u64, words: &[&str]) -> u64 {
 
 fn main() {
     let arguments: Vec<String> = std::env::args().skip(1).collect();
-    let [seed, number, files @ ..] = &arguments[..] else {
-        eprintln!("usage: mutants SEED NUMBER FILE..");
+    let [seed, each, files @ ..] = &arguments[..] else {
+        eprintln!("usage: mutants SEED EACH FILE..");
         std::process::exit(1);
     };
     let seed = seed.parse().expect("a number as seed");
-    let mut all = Vec::new();
+    let each = each.parse().expect("a number of mutants of each function");
     for file in files {
         let text = std::fs::read_to_string(file).unwrap_or_else(|fault| panic!("{file}: {fault}"));
         for body in bodies(&text) {
             let mut edits = edits(file, &body, seed);
             edits.sort_by_key(|edit| edit.rank);
-            all.extend(edits.into_iter().enumerate());
+            for Mutant { file, line, lines, function, kind, text, .. } in edits.iter().take(each) {
+                println!("{file}\t{line}\t{lines}\t{function}\t{kind}\t{text}");
+            }
         }
-    }
-    all.sort_by_key(|(turn, edit)| (*turn, edit.rank));
-    for (_, edit) in all.iter().take(number.parse().expect("a number of mutants")) {
-        let Mutant { file, line, lines, function, kind, text, .. } = edit;
-        println!("{file}\t{line}\t{lines}\t{function}\t{kind}\t{text}");
     }
 }
 
@@ -67,7 +63,8 @@ fn bodies(text: &str) -> Vec<Body<'_>> {
     let mut found = Vec::new();
     for (at, line) in lines.iter().enumerate() {
         let start = line.trim_start();
-        let Some(rest) = ["fn ", "pub fn ", "pub extern \"C\" fn "].iter().find_map(|word| start.strip_prefix(word)) else {
+        let Some(rest) = ["fn ", "pub fn ", "pub extern \"C\" fn "].iter().find_map(|word| start.strip_prefix(word))
+        else {
             continue;
         };
         let name: String = rest.chars().take_while(|c| c.is_alphanumeric() || *c == '_').collect();
@@ -75,7 +72,8 @@ fn bodies(text: &str) -> Vec<Body<'_>> {
         let end = format!("{}}}", " ".repeat(indent(line)));
         let Some(open) = (at..lines.len()).find(|&k| lines[k] == brace || lines[k].ends_with(" {")) else { continue };
         let Some(close) = (open..lines.len()).find(|&k| lines[k] == end) else { continue };
-        let signature: String = lines[at..=open].iter().filter(|l| !l.contains('⌜')).copied().collect::<Vec<_>>().join(" ");
+        let signature: String =
+            lines[at..=open].iter().filter(|l| !l.contains('⌜')).copied().collect::<Vec<_>>().join(" ");
         found.push(Body { name, first: open + 1, lines: lines[open + 1..close].to_vec(), types: types(&signature) });
     }
     found
@@ -108,8 +106,14 @@ fn words(line: &str) -> Vec<(usize, &str)> {
 
 fn edits(file: &str, body: &Body, seed: u64) -> Vec<Mutant> {
     const OPERATORS: [(&str, &str); 8] = [
-        (" < ", " <= "), (" <= ", " < "), (" == ", " != "), (" != ", " == "),
-        (" + ", " - "), (" - ", " + "), (" & ", " | "), (" | ", " & "),
+        (" < ", " <= "),
+        (" <= ", " < "),
+        (" == ", " != "),
+        (" != ", " == "),
+        (" + ", " - "),
+        (" - ", " + "),
+        (" & ", " | "),
+        (" | ", " & "),
     ];
     let mut all = Vec::new();
     for (at, line) in body.lines.iter().enumerate() {
