@@ -19,13 +19,13 @@ use Rattle.snapshot.specs.RangesLaws.{none-any}
 use Rattle.snapshot.specs.Format.{encode}
 use Rattle.snapshot.specs.Reading.{reading}
 use Rattle.snapshot.specs.Theorems.{accepts}
-use Rattle.snapshot.specs.Tables.{Tables, short, Held}
+use Rattle.snapshot.specs.Tables.{Tables, short, Room as Roomy, Held}
 use Rattle.scan.specs.declared.Read.{Read}
 use Rattle.scan.specs.declared.Read.the-variants as read
 use Rattle.scan.specs.Scan.{told}
 use Rattle.reader.specs.Read.{readAnswer, readTables}
 use Rattle.reader.specs.ReadLaws.{no-room, was-accepted, tables-left}
-use Rattle.tables.specs.Judging.{Decides, Room as Roomy}
+use Rattle.tables.specs.Judging.{Decides}
 use Rattle.snapshot.specs.TablesLaws.{has-room, room-enough}
 use Rattle.tables.specs.Theorems.{held-one}
 use Rattle.tables.specs.FilledLaws.{filled-held, filled-room}
