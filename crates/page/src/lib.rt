@@ -76,8 +76,8 @@ fn put_decided(
     requires { ⌜ (at + widestBlock ≤ length (now out)) × Part routers first end (now ids) (now distances) (columns (now router) (now asn) (now preference) (now path) (now origin) (now med) (now nid) (now peer)) blank blank ⌝ }
     ensures { λ next. ⌜ Puts (was out) (is out) at next (decidedText address bits (lentMesh routers (was ids) (was distances) (cut first (end - first) (columns (was router) (was asn) (was preference) (was path) (was origin) (was med) (was nid) (was peer))))) × (next ≤ at + widestBlock) ⌝ }
 {
-    let mut early = [0u16; 64];
-    let mut late = [0u16; 64];
+    let mut early = [0u16; snapshot::MOST_ROUTERS as usize];
+    let mut late = [0u16; snapshot::MOST_ROUTERS as usize];
     let d = outlook::shown(
         routers,
         first,
@@ -223,20 +223,20 @@ pub fn render(input: &[u8], out: &mut [u8]) -> Rendered
     if out.len() < PAGE {
         return Rendered::Refused(Refusal::Room, 0);
     }
-    let mut ids = [0u32; 64];
-    let mut distances = [0u32; 4096];
-    let mut address = [0u32; 64];
-    let mut bits = [0u32; 64];
-    let mut routes = [0u32; 64];
-    let mut router = [0u32; 1024];
-    let mut asn = [0u32; 1024];
-    let mut preference = [0u32; 1024];
-    let mut path = [0u32; 1024];
-    let mut origin = [0u32; 1024];
-    let mut mark = [0u32; 1024];
-    let mut med = [0u32; 1024];
-    let mut nid = [0u32; 1024];
-    let mut peer = [0u32; 1024];
+    let mut ids = [0u32; snapshot::MOST_ROUTERS as usize];
+    let mut distances = [0u32; snapshot::ROOM_DISTANCES];
+    let mut address = [0u32; snapshot::MOST_PREFIXES as usize];
+    let mut bits = [0u32; snapshot::MOST_PREFIXES as usize];
+    let mut routes = [0u32; snapshot::MOST_PREFIXES as usize];
+    let mut router = [0u32; snapshot::MOST_ROUTES as usize];
+    let mut asn = [0u32; snapshot::MOST_ROUTES as usize];
+    let mut preference = [0u32; snapshot::MOST_ROUTES as usize];
+    let mut path = [0u32; snapshot::MOST_ROUTES as usize];
+    let mut origin = [0u32; snapshot::MOST_ROUTES as usize];
+    let mut mark = [0u32; snapshot::MOST_ROUTES as usize];
+    let mut med = [0u32; snapshot::MOST_ROUTES as usize];
+    let mut nid = [0u32; snapshot::MOST_ROUTES as usize];
+    let mut peer = [0u32; snapshot::MOST_ROUTES as usize];
     let read = reader::read_snapshot(
         input,
         &mut ids,
