@@ -254,7 +254,7 @@ pub fn render(input: &[u8], out: &mut [u8]) -> Rendered
         &mut nid,
         &mut peer,
     );
-    Rendered::Text(put_read(
+    let end = put_read(
         read,
         out,
         &ids,
@@ -270,5 +270,6 @@ pub fn render(input: &[u8], out: &mut [u8]) -> Rendered
         &med,
         &nid,
         &peer,
-    ))
+    );
+    Rendered::Text(end)
 }

@@ -1,4 +1,4 @@
-use mathlib.Core.Path.{refl}
+use mathlib.Core.Path.{refl, sym}
 use denote.Ref.{now}
 use lib.Dec.{T}
 use lib.Pow.{areBytes}
@@ -49,9 +49,45 @@ returns-2 c =
 pub render-spec : {M : Type 1} → statement M
 render-spec =
     tie.close (tie.spec returns
-    (λ c. search needs) (λ c. search needs) (λ c. search needs) (λ c. search needs) (λ c. search needs) (λ c. search needs) (λ c. search needs)
-    (λ c. search needs) (λ c. search needs) (λ c. search needs) (λ c. search needs) (λ c. search needs) (λ c. search needs) (λ c. search needs)
+    (λ c. refl) (λ c. refl) (λ c. refl) (λ c. refl) (λ c. refl) (λ c. refl) (λ c. refl) (λ c. refl) (λ c. refl) (λ c. refl) (λ c. refl) (λ c. refl) (λ c. refl) (λ c. refl)
     (λ c κs. search needs)
-    (λ c. search needs) (λ c. search needs) (λ c. search needs) (λ c. search needs) (λ c. search needs) (λ c. search needs) (λ c. search needs)
-    (λ c. search needs) (λ c. search needs) (λ c. search needs) (λ c. search needs) (λ c. search needs) (λ c. search needs)
+    (λ c.
+    let done : tie.After-read-snapshot = search needs in
+    sym (done .read-snapshot .kept .1 .0))
+    (λ c.
+    let done : tie.After-read-snapshot = search needs in
+    sym (done .read-snapshot .kept .1 .1 .0))
+    (λ c.
+    let done : tie.After-read-snapshot = search needs in
+    sym (done .read-snapshot .kept .1 .1 .1 .0))
+    (λ c.
+    let done : tie.After-read-snapshot = search needs in
+    sym (done .read-snapshot .kept .1 .1 .1 .1 .0))
+    (λ c.
+    let done : tie.After-read-snapshot = search needs in
+    sym (done .read-snapshot .kept .1 .1 .1 .1 .1 .0))
+    (λ c.
+    let done : tie.After-read-snapshot = search needs in
+    sym (done .read-snapshot .kept .1 .1 .1 .1 .1 .1 .0))
+    (λ c.
+    let done : tie.After-read-snapshot = search needs in
+    sym (done .read-snapshot .kept .1 .1 .1 .1 .1 .1 .1 .0))
+    (λ c.
+    let done : tie.After-read-snapshot = search needs in
+    sym (done .read-snapshot .kept .1 .1 .1 .1 .1 .1 .1 .1 .0))
+    (λ c.
+    let done : tie.After-read-snapshot = search needs in
+    sym (done .read-snapshot .kept .1 .1 .1 .1 .1 .1 .1 .1 .1 .0))
+    (λ c.
+    let done : tie.After-read-snapshot = search needs in
+    sym (done .read-snapshot .kept .1 .1 .1 .1 .1 .1 .1 .1 .1 .1 .0))
+    (λ c.
+    let done : tie.After-read-snapshot = search needs in
+    sym (done .read-snapshot .kept .1 .1 .1 .1 .1 .1 .1 .1 .1 .1 .1 .1 .0))
+    (λ c.
+    let done : tie.After-read-snapshot = search needs in
+    sym (done .read-snapshot .kept .1 .1 .1 .1 .1 .1 .1 .1 .1 .1 .1 .1 .1 .0))
+    (λ c.
+    let done : tie.After-read-snapshot = search needs in
+    sym (done .read-snapshot .kept .1 .1 .1 .1 .1 .1 .1 .1 .1 .1 .1 .1 .1 .1 .0))
     put-read-requires (λ c. search needs) returns-2)
