@@ -10,7 +10,7 @@ use Rattle.snapshot.specs.declared.Counts.{Counts}
 use Rattle.snapshot.specs.Limits.{mostRoutes}
 use Rattle.snapshot.specs.Ranges.{none}
 use Rattle.snapshot.specs.Format.{Snapshot, encode, Valid}
-use Rattle.snapshot.specs.Reading.{Answer, reading}
+use Rattle.snapshot.specs.Reading.{reading}
 use Rattle.snapshot.specs.Tables.{Tables, short, Held}
 use Rattle.scan.specs.declared.Read.{Read}
 use Rattle.scan.specs.declared.Read.the-variants as read

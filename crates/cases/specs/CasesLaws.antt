@@ -16,7 +16,7 @@ use Rattle.snapshot.specs.declared.Counts.{Counts}
 use Rattle.snapshot.specs.Limits.{mostRoutes}
 use Rattle.snapshot.specs.Ranges.{anyOf}
 use Rattle.snapshot.specs.RangesLaws.{none-any}
-use Rattle.snapshot.specs.Format.{Snapshot, encode}
+use Rattle.snapshot.specs.Format.{encode}
 use Rattle.snapshot.specs.Reading.{reading}
 use Rattle.snapshot.specs.Theorems.{accepts}
 use Rattle.snapshot.specs.Tables.{Tables, short, Held}

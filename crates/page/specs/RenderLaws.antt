@@ -9,19 +9,16 @@ use lib.Dec.{T, eqb, lit≤}
 use lib.ListN.{length, getD, drop, length-map, List·getD-append}
 use lib.Seq.{sets, sets-eq}
 use lib.Pow.{areBytes}
-use Rattle.refusal.specs.declared.Refusal.{Refusal}
-use Rattle.refusal.specs.Numbers.{numberOf}
 use Rattle.model.specs.Rows.{keep, span, column}
 use Rattle.model.specs.RowLaws.{In, here, there, in-span}
 use Rattle.model.specs.Decision.{Mesh, none}
 use Rattle.model.specs.Contest.{early, late}
 use Rattle.model.specs.Columns.{Columns, lentMesh}
 use Rattle.snapshot.specs.declared.Counts.{Counts}
-use Rattle.snapshot.specs.Limits.{mostRouters, mostPrefixes}
+use Rattle.snapshot.specs.Limits.{mostPrefixes}
 use Rattle.snapshot.specs.Ranges.{anyOf}
 use Rattle.snapshot.specs.RangesLaws.{none-any}
 use Rattle.snapshot.specs.Format.{Prefix, Snapshot}
-use Rattle.snapshot.specs.Reading.{accepted, refused, reading}
 use Rattle.snapshot.specs.Theorems.{accepts}
 use Rattle.snapshot.specs.Tables.{Tables, short, Held, mesh}
 use Rattle.scan.specs.declared.Read.{Read}
@@ -33,9 +30,8 @@ use Rattle.outlook.specs.Outlook.{cut}
 use Rattle.outlook.specs.OutlookLaws.{whole, part-of, n-is, same-parts, lent, pair}
 use Rattle.reader.specs.Read.{readAnswer, readTables}
 use Rattle.reader.specs.ReadLaws.{was-refused, was-accepted, tables-left}
-use Rattle.lines.specs.Lines.{widest, headingLine, refusedLine}
+use Rattle.lines.specs.Lines.{widest, headingLine}
 use Rattle.text.specs.Text.{each, Puts}
-use Rattle.text.specs.TextLaws.{puts-as}
 use Rattle.page.specs.declared.Rendered.{Rendered}
 use Rattle.page.specs.declared.Rendered.the-variants.{Text}
 use Rattle.page.specs.Page.{block, decidedText, prefixOf, snapshotText, answerText, page, widestBlock, widestPage, lentText, blank, Blocks, lentPage, Ready, Renders, room, text}

@@ -2,7 +2,7 @@
 use refusal::Refusal;
 use scan::Read;
 ghost use mathlib.Core.Path.{_≡_};
-ghost use Prim.Native.Nat.{ℕ, _+_, _-_, _*_, _≤_, _<_};
+ghost use Prim.Native.Nat.{_+_, _-_, _*_, _≤_, _<_};
 ghost use lib.ListN.{length, getD};
 ghost use Rattle.model.specs.Rows.{span};
 ghost use Rattle.model.specs.Decision.{none};

@@ -1,5 +1,4 @@
 use mathlib.Core.Path.{refl, sym}
-use native.Mathlib.Omega.{arith}
 use denote.Ref.{now}
 use lib.ListN.{length}
 use lib.Dec.{T}
