@@ -28,6 +28,10 @@ pub record Written (bs : List ℕ) (counts : Counts) (t : Tables) : Type 0 where
   pub held : Held counts t snapshot
   pub bytes : bs ≡ encode snapshot
 
+-- what was read stands in the tables: where it was accepted, its bytes are those of the snapshot that they hold
+pub record Kept (answer : Read) (bs : List ℕ) (t : Tables) : Type 0 where
+  pub written : (c : Counts) → answer ≡ read.Accepted c → Written bs c t
+
 -- what is found where reading gives this answer: whatever is accepted is written as the same bytes again
 abbrev pub finding : Read → Finding
 finding (read.Accepted c) = Accepted c true

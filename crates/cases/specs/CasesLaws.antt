@@ -36,7 +36,7 @@ use Rattle.writer.specs.RoundTripLaws.{writes-one, written-back}
 use Rattle.cases.specs.declared.Finding.{Finding}
 use Rattle.cases.specs.declared.Finding.the-variants.{Accepted, Refused}
 use Rattle.lines.specs.Lines.{refusedLine}
-use Rattle.cases.specs.Cases.{Written, finding, found, findingLine}
+use Rattle.cases.specs.Cases.{Written, Kept, finding, found, findingLine}
 
 -- ---- written and compared
 
@@ -70,6 +70,10 @@ module _ {before after : List ℕ} {counts : Counts} {t : Tables} {answer : Writ
         omega arith;
   }
 
+-- what is accepted is found to be the same
+pub same-found : {bs : List ℕ} {t : Tables} {c : Counts} {r : Read} {same : Bool} → Decides (Written bs c t) same → Kept r bs t → r ≡ read.Accepted c → Accepted c same ≡ finding r
+same-found {c} {same} d k e = ap (Accepted c) (by same (λ yes. yes) (λ no. absurd (d .no no (k .written c e)))) ∙ ap finding (sym e)
+
 -- ---- read, and then written and compared
 
 module _ (bs : List ℕ) (t : Tables) where
@@ -90,18 +94,13 @@ module _ (bs : List ℕ) (t : Tables) where
         bytes = same;
       }
 
-  pub accepted-found : {c : Counts} {u : Tables} {same : Bool} → T (areBytes bs) → read.Accepted c ≡ readAnswer bs t → u ≡ readTables bs t
-      → Decides (Written bs c u) same → Accepted c same ≡ finding (readAnswer bs t)
-  accepted-found {c} {same} bytes e f d =
-      ap (Accepted c) (by same (λ yes. yes) (λ no. absurd (d .no no (taken bytes e f)))) ∙ ap finding e
-
-  pub refused-found : {r : Refusal} {at : ℕ} → read.Refused r at ≡ readAnswer bs t → Refused r at ≡ finding (readAnswer bs t)
-  refused-found e = ap finding e
+  pub kept : (r : Read) (u : Tables) → T (areBytes bs) → r ≡ readAnswer bs t → u ≡ readTables bs t → Kept r bs u
+  kept r u bytes e f = record { written = λ c is. taken bytes (sym is ∙ e) f }
 
   -- the tables are short exactly where the peers' is
-  pub found-is : {r : Finding} (peers : ℕ) → anyOf (short t) ≡ ltb peers mostRoutes → r ≡ finding (readAnswer bs t) → r ≡ found bs peers
+  pub found-is : {r : Finding} {answer : Read} (peers : ℕ) → anyOf (short t) ≡ ltb peers mostRoutes → answer ≡ readAnswer bs t → r ≡ finding answer → r ≡ found bs peers
   unfolding readAnswer
-  found-is peers e f = f ∙ chosen (anyOf (short t)) ∙ ap (λ (b : Bool). cond b (Refused Room 0) (finding (told (reading bs)))) e
+  found-is peers e a f = f ∙ ap finding a ∙ chosen (anyOf (short t)) ∙ ap (λ (b : Bool). cond b (Refused Room 0) (finding (told (reading bs)))) e
     where
       chosen : (b : Bool) → finding (cond b (read.Refused Room 0) (told (reading bs))) ≡ cond b (Refused Room 0) (finding (told (reading bs)))
       chosen true = refl

@@ -18,10 +18,9 @@ ghost use Rattle.model.specs.Lent.{was, is};
 ghost use Rattle.snapshot.specs.Limits.{mostRoutes, longest};
 ghost use Rattle.snapshot.specs.Tables.{columns, tables};
 ghost use Rattle.tables.specs.Judging.{Decides};
-ghost use Rattle.reader.specs.Read.{readAnswer};
 ghost use Rattle.text.specs.Text.{ascii, decimal, Puts};
 ghost use Rattle.lines.specs.Lines.{widest};
-ghost use Rattle.cases.specs.Cases.{Written, finding, found, acceptedLine, findingLine, widestLine};
+ghost use Rattle.cases.specs.Cases.{Written, Kept, finding, found, acceptedLine, findingLine, widestLine};
 
 // What is found of a file: its counts and whether it was written as the same bytes again, or a refusal with its place.
 enum Finding {
@@ -81,45 +80,30 @@ fn written_as(
     }
 }
 
-// Reads a snapshot into tables that are lent for it, writes it again and compares.
-fn tried(
+// Writes what was read into lent tables again and compares.
+fn compared(
+    read: Read,
     input: &[u8],
-    ids: &mut [u32],
-    distances: &mut [u32],
-    address: &mut [u32],
-    bits: &mut [u32],
-    routes: &mut [u32],
-    router: &mut [u32],
-    asn: &mut [u32],
-    preference: &mut [u32],
-    path: &mut [u32],
-    origin: &mut [u32],
-    mark: &mut [u32],
-    med: &mut [u32],
-    nid: &mut [u32],
-    peer: &mut [u32],
+    ids: &[u32],
+    distances: &[u32],
+    address: &[u32],
+    bits: &[u32],
+    routes: &[u32],
+    router: &[u32],
+    asn: &[u32],
+    preference: &[u32],
+    path: &[u32],
+    origin: &[u32],
+    mark: &[u32],
+    med: &[u32],
+    nid: &[u32],
+    peer: &[u32],
     again: &mut [u8],
 ) -> Finding
-    requires { ⌜ length (now input) ≤ length (now again) ⌝ }
-    ensures { λ r. ⌜ r ≡ finding (readAnswer (was input) (tables (was ids) (was distances) (was address) (was bits) (was routes) (columns (was router) (was asn) (was preference) (was path) (was origin) (was mark) (was med) (was nid) (was peer)))) ⌝ }
+    requires { ⌜ (length (now input) ≤ length (now again)) × Kept read (now input) (tables (now ids) (now distances) (now address) (now bits) (now routes) (columns (now router) (now asn) (now preference) (now path) (now origin) (now mark) (now med) (now nid) (now peer))) ⌝ }
+    ensures { λ r. ⌜ r ≡ finding read ⌝ }
 {
-    match reader::read_snapshot(
-        input,
-        ids,
-        distances,
-        address,
-        bits,
-        routes,
-        router,
-        asn,
-        preference,
-        path,
-        origin,
-        mark,
-        med,
-        nid,
-        peer,
-    ) {
+    match read {
         Read::Refused(r, at) => Finding::Refused(r, at),
         Read::Accepted(counts) => {
             let same = written_as(
@@ -151,21 +135,21 @@ fn examined(input: &[u8], peer: &mut [u32]) -> Finding
     requires { ⌜ length (now input) ≤ suc longest ⌝ }
     ensures { λ r. ⌜ r ≡ found (was input) (length (was peer)) ⌝ }
 {
-    let mut ids = [0u32; 64];
-    let mut distances = [0u32; 4096];
-    let mut address = [0u32; 64];
-    let mut bits = [0u32; 64];
-    let mut routes = [0u32; 64];
-    let mut router = [0u32; 1024];
-    let mut asn = [0u32; 1024];
-    let mut preference = [0u32; 1024];
-    let mut path = [0u32; 1024];
-    let mut origin = [0u32; 1024];
-    let mut mark = [0u32; 1024];
-    let mut med = [0u32; 1024];
-    let mut nid = [0u32; 1024];
+    let mut ids = [0u32; snapshot::MOST_ROUTERS as usize];
+    let mut distances = [0u32; snapshot::ROOM_DISTANCES];
+    let mut address = [0u32; snapshot::MOST_PREFIXES as usize];
+    let mut bits = [0u32; snapshot::MOST_PREFIXES as usize];
+    let mut routes = [0u32; snapshot::MOST_PREFIXES as usize];
+    let mut router = [0u32; snapshot::MOST_ROUTES as usize];
+    let mut asn = [0u32; snapshot::MOST_ROUTES as usize];
+    let mut preference = [0u32; snapshot::MOST_ROUTES as usize];
+    let mut path = [0u32; snapshot::MOST_ROUTES as usize];
+    let mut origin = [0u32; snapshot::MOST_ROUTES as usize];
+    let mut mark = [0u32; snapshot::MOST_ROUTES as usize];
+    let mut med = [0u32; snapshot::MOST_ROUTES as usize];
+    let mut nid = [0u32; snapshot::MOST_ROUTES as usize];
     let mut again = [0u8; INPUT];
-    tried(
+    let read = reader::read_snapshot(
         input,
         &mut ids,
         &mut distances,
@@ -180,6 +164,24 @@ fn examined(input: &[u8], peer: &mut [u32]) -> Finding
         &mut mark,
         &mut med,
         &mut nid,
+        peer,
+    );
+    compared(
+        read,
+        input,
+        &ids,
+        &distances,
+        &address,
+        &bits,
+        &routes,
+        &router,
+        &asn,
+        &preference,
+        &path,
+        &origin,
+        &mark,
+        &med,
+        &nid,
         peer,
         &mut again,
     )
@@ -234,7 +236,7 @@ fn run(name: &[u8], room: usize)
     let mut input = [0u8; INPUT];
     let n = io::read_full(from, &mut input);
     libc::close(from);
-    let mut peer = [0u32; 1024];
+    let mut peer = [0u32; snapshot::MOST_ROUTES as usize];
     let mut out = [0u8; LINE];
     let end = put_line(&mut out, name, &input[..n], &mut peer[..room]);
     io::write_all(libc::STDOUT_FILENO, &out[..end]);

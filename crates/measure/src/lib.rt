@@ -3,9 +3,20 @@ use outlook::Outlook;
 use scan::Read;
 use snapshot::Counts;
 use writer::Write;
+ghost use mathlib.Core.Path.{_≡_};
 ghost use Rattle.model.specs.Lent.{was, is};
 ghost use Rattle.snapshot.specs.Tables.{tables, columns};
-ghost use Rattle.measure.specs.Measure.{Reads, Writes, Forecasts};
+ghost use Rattle.measure.specs.Measure.{readNumber, Reads, Writes, Forecasts};
+
+// What reading answers, as a number.
+fn read_number(read: Read) -> u32
+    ensures { λ r. ⌜ r ≡ readNumber read ⌝ }
+{
+    match read {
+        Read::Refused(r, _) => refusal::number(r),
+        Read::Accepted(_) => 0,
+    }
+}
 
 // Reads a snapshot: 0, or the number of the refusal.
 #[no_mangle]
@@ -28,7 +39,7 @@ pub extern "C" fn measure_read(
 ) -> u32
     ensures { λ r. ⌜ Reads (was input) (tables (was ids) (was distances) (was address) (was bits) (was routes) (columns (was router) (was asn) (was preference) (was path) (was origin) (was mark) (was med) (was nid) (was peer))) (tables (is ids) (is distances) (is address) (is bits) (is routes) (columns (is router) (is asn) (is preference) (is path) (is origin) (is mark) (is med) (is nid) (is peer))) r ⌝ }
 {
-    match reader::read_snapshot(
+    let read = reader::read_snapshot(
         input,
         ids,
         distances,
@@ -44,10 +55,8 @@ pub extern "C" fn measure_read(
         med,
         nid,
         peer,
-    ) {
-        Read::Refused(r, _) => refusal::number(r),
-        Read::Accepted(_) => 0,
-    }
+    );
+    read_number(read)
 }
 
 // Writes a snapshot: how many bytes, or 0 for a refusal.

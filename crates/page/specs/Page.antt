@@ -2,10 +2,10 @@
 use Prim.Native.Nat.{ℕ, _+_, _*_, _≤_, _<_}
 use mathlib.Core.Path.{_≡_}
 use mathlib.Core.Logic.{_⊎_}
-use mathlib.Core.Bool.{false, not}
+use mathlib.Core.Bool.{not}
 use mathlib.Core.List.{List, _++_, map}
 use lib.Dec.{eqb}
-use lib.ListN.{length, getD}
+use lib.ListN.{length, getD, replicate}
 use Rattle.refusal.specs.Numbers.{numberOf}
 use Rattle.model.specs.Rows.{span, column, start}
 use Rattle.model.specs.Columns.{Columns, lentMesh}
@@ -15,8 +15,10 @@ use Rattle.model.specs.Contest.{early, late}
 use Rattle.snapshot.specs.Limits.{mostRouters, mostPrefixes}
 use Rattle.snapshot.specs.Format.{Snapshot}
 use Rattle.snapshot.specs.Reading.{Answer, accepted, refused, reading}
-use Rattle.snapshot.specs.Ranges.{anyOf}
-use Rattle.snapshot.specs.Tables.{Tables, short, mesh}
+use Rattle.snapshot.specs.Tables.{mesh}
+use Rattle.snapshot.specs.declared.Counts.{Counts}
+use Rattle.scan.specs.declared.Read.{Read}
+use Rattle.scan.specs.declared.Read.the-variants as read
 use Rattle.outlook.specs.Outlook.{cut, Part}
 use lib.Seq.{sets}
 use Rattle.refusal.specs.declared.Refusal.the-variants.{Room}
@@ -82,17 +84,25 @@ abbrev pub lentText : ℕ → List ℕ → List ℕ → List ℕ → List ℕ �
 lentText routers ids distances address bits routes c p =
     decidedText (column address p) (column bits p) (lentMesh routers ids distances (cut (start routes p) (column routes p) c))
 
--- so many prefixes, each of which may be decided, with areas of these lengths
-pub record Blocks (routers prefixes : ℕ) (ids distances address bits routes : List ℕ) (c : Columns) (earlies lates : ℕ) : Type 0 where
+-- an area for the rows of the most routers
+abbrev pub blank : List ℕ
+blank = replicate mostRouters 0
+
+-- so many prefixes, each of which may be decided
+pub record Blocks (routers prefixes : ℕ) (ids distances address bits routes : List ℕ) (c : Columns) : Type 0 where
+  pub few : prefixes ≤ mostPrefixes
   pub addresses : prefixes ≤ length address
   pub lengths : prefixes ≤ length bits
   pub numbers : prefixes ≤ length routes
-  pub part : (p first end : ℕ) → p < prefixes → first ≡ start routes p → end ≡ first + column routes p
-      → (early late : List ℕ) → length early ≡ earlies → length late ≡ lates → Part routers first end ids distances c early late
+  pub part : (p first end : ℕ) → p < prefixes → first ≡ start routes p → end ≡ first + column routes p → Part routers first end ids distances c blank blank
 
--- tables and areas with room, and a buffer in which any page fits
-pub record Ready (t : Tables) (early late out : List ℕ) : Type 0 where
-  pub room : anyOf (short t) ≡ false
-  pub earlies : mostRouters ≤ length early
-  pub lates : mostRouters ≤ length late
-  pub out-long : widestPage ≤ length out
+-- the page of what was read into lent tables
+abbrev pub lentPage : Read → List ℕ → List ℕ → List ℕ → List ℕ → List ℕ → Columns → List ℕ
+lentPage (read.Accepted n) ids distances address bits routes c =
+    headingLine (n .routers) (n .prefixes) ++ each (lentText (n .routers) ids distances address bits routes c) (span 0 (n .prefixes))
+lentPage (read.Refused r at) ids distances address bits routes c = refusedLine (numberOf r) at
+
+-- tables with the prefixes of a snapshot that was accepted, and a buffer in which any page fits
+pub record Ready (answer : Read) (ids distances address bits routes : List ℕ) (c : Columns) (room : ℕ) : Type 0 where
+  pub blocks : (n : Counts) → answer ≡ read.Accepted n → Blocks (n .routers) (n .prefixes) ids distances address bits routes c
+  pub out-long : widestPage ≤ room

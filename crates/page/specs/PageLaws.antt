@@ -1,20 +1,20 @@
 -- What the code puts on the page is the text of the forecast.
 use Prim.Native.Nat.{ℕ, _+_, _≤_, _<_}
 use native.Mathlib.Omega.{arith}
-use mathlib.Core.Path.{_≡_, refl, sym, ap, ap₂, subst, _∙_}
+use mathlib.Core.Path.{_≡_, sym, ap, ap₂, subst, _∙_}
 use mathlib.Core.Logic.{_⊎_, inl, inr}
-use mathlib.Core.List.{List, _++_}
+use mathlib.Core.List.{List}
 use lib.ListN.{length, getD, take, drop}
 use lib.Seq.{sets, sets-eq, take-at}
-use Rattle.model.specs.Rows.{table, column}
-use Rattle.model.specs.RowLaws.{In, first-cases, table-at, table-length}
+use Rattle.model.specs.Rows.{table}
+use Rattle.model.specs.RowLaws.{first-cases, table-at, table-length}
 use Rattle.model.specs.Decision.{Mesh, none, decided, choice}
 use Rattle.model.specs.DecisionLaws.{in-all, decided-in}
 use Rattle.model.specs.Stability.{available, differing}
 use Rattle.model.specs.StabilityLaws.{available-all}
 use Rattle.model.specs.Contest.{early, late, atPlace, holding, earliest, latest, contest}
 use Rattle.outlook.specs.declared.Differing.{Differing}
-use Rattle.outlook.specs.Outlook.{Shown, differingOf}
+use Rattle.outlook.specs.Outlook.{Shown}
 use Rattle.page.specs.Page.{Rows, block, decidedText}
 
 -- ---- rows that are held

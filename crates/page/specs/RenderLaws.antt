@@ -3,26 +3,25 @@ use Prim.Native.Nat.{ℕ, _+_, _*_, _≤_, _<_}
 use native.Mathlib.Nat.{mul-le-mul-left}
 use native.Mathlib.Omega.{arith}
 use mathlib.Core.Path.{_≡_, refl, sym, ap, ap₂, subst, subst₂, _∙_}
-use mathlib.Core.Bool.{not}
+use mathlib.Core.Bool.{false, not}
 use mathlib.Core.List.{List, [], _∷_, _++_, map}
-use lib.Dec.{T, eqb}
+use lib.Dec.{T, eqb, lit≤}
 use lib.ListN.{length, getD, drop, length-map, List·getD-append}
 use lib.Seq.{sets, sets-eq}
 use lib.Pow.{areBytes}
-use Rattle.refusal.specs.declared.Refusal.{Refusal}
-use Rattle.refusal.specs.Numbers.{numberOf}
 use Rattle.model.specs.Rows.{keep, span, column, start}
 use Rattle.model.specs.RowLaws.{In, here, there, in-span}
 use Rattle.model.specs.Decision.{Mesh, none}
 use Rattle.model.specs.Contest.{early, late}
 use Rattle.model.specs.Columns.{Columns, lentMesh}
 use Rattle.snapshot.specs.declared.Counts.{Counts}
-use Rattle.snapshot.specs.Limits.{mostRouters, mostPrefixes}
+use Rattle.snapshot.specs.Limits.{mostPrefixes}
+use Rattle.snapshot.specs.Ranges.{anyOf}
 use Rattle.snapshot.specs.RangesLaws.{none-any}
 use Rattle.snapshot.specs.Format.{Prefix, Snapshot}
-use Rattle.snapshot.specs.Reading.{accepted, refused, reading}
 use Rattle.snapshot.specs.Theorems.{accepts}
 use Rattle.snapshot.specs.Tables.{Tables, short, Held, mesh, Room}
+use Rattle.scan.specs.declared.Read.{Read}
 use Rattle.scan.specs.declared.Read.the-variants as read
 use Rattle.tables.specs.Judging.{Holding}
 use Rattle.snapshot.specs.TablesLaws.{has-room}
@@ -31,12 +30,11 @@ use Rattle.outlook.specs.Outlook.{cut}
 use Rattle.outlook.specs.OutlookLaws.{whole, part-of, n-is, same-parts, lent, pair}
 use Rattle.reader.specs.Read.{readAnswer, readTables}
 use Rattle.reader.specs.ReadLaws.{was-refused, was-accepted, tables-left}
-use Rattle.lines.specs.Lines.{widest, headingLine, refusedLine}
+use Rattle.lines.specs.Lines.{widest, headingLine}
 use Rattle.text.specs.Text.{each, Puts}
-use Rattle.text.specs.TextLaws.{puts-as}
 use Rattle.page.specs.declared.Rendered.{Rendered}
 use Rattle.page.specs.declared.Rendered.the-variants.{Text}
-use Rattle.page.specs.Page.{block, decidedText, prefixOf, snapshotText, answerText, page, widestBlock, widestPage, lentText, Blocks, Ready, Renders, room, text}
+use Rattle.page.specs.Page.{block, decidedText, prefixOf, snapshotText, answerText, page, widestBlock, widestPage, lentText, blank, Blocks, lentPage, Ready, Renders, room, text}
 
 -- texts that agree for each number of a list
 each-same : (f g : ℕ → List ℕ) (rs : List ℕ) → ((r : ℕ) → In r rs → f r ≡ g r) → each f rs ≡ each g rs
@@ -46,17 +44,17 @@ each-same f g (r ∷ rs) h = ap₂ {C = List ℕ} _++_ (h r (here refl)) (each-s
 -- ---- tables that hold a snapshot
 
 module _ (counts : Counts) (t : Tables) (roomy : Room t) (holding : Holding counts t) where
-  pub blocks : (early late : List ℕ) → mostRouters ≤ length early → mostRouters ≤ length late
-      → Blocks (counts .routers) (counts .prefixes) (t .ids) (t .distances) (t .address) (t .bits) (t .routes) (whole t) (length early) (length late)
-  blocks early late re rl = record {
-    addresses = omega (arith, few, roomy .prefixes .address);
-    lengths = omega (arith, few, roomy .prefixes .bits);
-    numbers = omega (arith, few, roomy .prefixes .routes);
-    part = λ p first end l f e early₁ late₁ a b. part-of counts t p roomy holding l f e early₁ late₁ (omega arith) (omega arith);
+  few-prefixes : counts .prefixes ≤ mostPrefixes
+  few-prefixes = omega (arith, ap (λ (c : Counts). c .prefixes) (holding .held .0), holding .valid .fewPrefixes)
+
+  pub blocks : Blocks (counts .routers) (counts .prefixes) (t .ids) (t .distances) (t .address) (t .bits) (t .routes) (whole t)
+  blocks = record {
+    few = few-prefixes;
+    addresses = omega (arith, few-prefixes, roomy .prefixes .address);
+    lengths = omega (arith, few-prefixes, roomy .prefixes .bits);
+    numbers = omega (arith, few-prefixes, roomy .prefixes .routes);
+    part = λ p first end l f e. part-of counts t p roomy holding l f e blank blank (lit≤ tt) (lit≤ tt);
   }
-    where
-      few : counts .prefixes ≤ mostPrefixes
-      few = omega (arith, ap (λ (c : Counts). c .prefixes) (holding .held .0), holding .valid .fewPrefixes)
 
   abbrev s : Snapshot
   s = holding .snapshot
@@ -99,13 +97,6 @@ module _ (counts : Counts) (t : Tables) (roomy : Room t) (holding : Holding coun
       rows : ℕ → List ℕ → List ℕ → List ℕ
       rows k e l = block (getD addresses p 0) (getD lengths p 0) (length (keep (λ r. not (eqb (getD e r none) (getD l r none))) (span 0 k))) (mesh s p .router) k e l
 
-  -- a buffer for any page has room for this one
-  pub page-room : (n : ℕ) → widestPage ≤ n → widest + widestBlock * counts .prefixes ≤ n
-  page-room n l =
-      let few : counts .prefixes ≤ mostPrefixes = omega (arith, ap (λ (c : Counts). c .prefixes) (holding .held .0), holding .valid .fewPrefixes) in
-      let k : widestBlock * counts .prefixes ≤ widestBlock * mostPrefixes = mul-le-mul-left widestBlock few in
-      omega arith
-
   -- the text of the tables is the text of the snapshot
   pub tables-text : headingLine (counts .routers) (counts .prefixes) ++ each (lentText (counts .routers) (t .ids) (t .distances) (t .address) (t .bits) (t .routes) (whole t)) (span 0 (counts .prefixes))
       ≡ snapshotText s
@@ -116,29 +107,20 @@ module _ (counts : Counts) (t : Tables) (roomy : Room t) (holding : Holding coun
 
 -- ---- what reading left
 
-module _ (bs : List ℕ) (t : Tables) (early late out : List ℕ) (ready : Ready t early late out) (bytes : T (areBytes bs)) where
-  -- refused: one line
-  pub refused-page : {r : Refusal} {at : ℕ} → read.Refused r at ≡ readAnswer bs t → page bs ≡ refusedLine (numberOf r) at
-  unfolding page
-  refused-page e = ap answerText (was-refused bs t (ready .room) e)
-
-  pub refused-puts : {before after : List ℕ} {end n : ℕ} {r : Refusal} {at : ℕ}
-      → Puts before after 0 end (refusedLine n at) → n ≡ numberOf r → read.Refused r at ≡ readAnswer bs t → Puts before after 0 end (page bs)
-  refused-puts {at} p e k = puts-as p (ap (λ (n : ℕ). refusedLine n at) e ∙ sym (refused-page k))
-
+module _ (bs : List ℕ) (t : Tables) (enough : anyOf (short t) ≡ false) (bytes : T (areBytes bs)) where
   -- accepted: the tables hold the snapshot
-  pub record Filled (c : Counts) (u : Tables) : Type 0 where
-    pub room : Room u
-    pub holding : Holding c u
-    pub text : page bs ≡ snapshotText (holding .snapshot)
+  record Filled (c : Counts) (u : Tables) : Type 0 where
+    room : Room u
+    holding : Holding c u
+    text : page bs ≡ snapshotText (holding .snapshot)
 
-  pub filled-page : {c : Counts} {u : Tables} → read.Accepted c ≡ readAnswer bs t → u ≡ readTables bs t → Filled c u
+  filled-page : {c : Counts} {u : Tables} → read.Accepted c ≡ readAnswer bs t → u ≡ readTables bs t → Filled c u
   unfolding page
   filled-page {c} {u} e f =
-      let (s, is, counts) = was-accepted bs t (ready .room) e in
+      let (s, is, counts) = was-accepted bs t enough e in
       let valid = accepts bs s bytes .0 is .1 in
-      let roomy = has-room t (none-any (short t) (ready .room)) in
-      let left = f ∙ tables-left bs t (ready .room) is in
+      let roomy = has-room t (none-any (short t) enough) in
+      let left = f ∙ tables-left bs t enough is in
       record {
         room = subst Room (sym left) (filled-room s roomy);
         holding = record {
@@ -149,7 +131,28 @@ module _ (bs : List ℕ) (t : Tables) (early late out : List ℕ) (ready : Ready
         text = ap answerText is;
       }
 
+  -- so its prefixes may be decided
+  pub ready : (r : Read) (u : Tables) (n : ℕ) → r ≡ readAnswer bs t → u ≡ readTables bs t → widestPage ≤ n
+      → Ready r (u .ids) (u .distances) (u .address) (u .bits) (u .routes) (whole u) n
+  ready r u n e f l = record {
+    blocks = λ c is. let g = filled-page (sym is ∙ e) f in blocks c u (g .room) (g .holding);
+    out-long = l;
+  }
+
+  -- the page of what was read is the page of the bytes: a refusal is one line
+  pub page-is : (r : Read) (u : Tables) → r ≡ readAnswer bs t → u ≡ readTables bs t
+      → lentPage r (u .ids) (u .distances) (u .address) (u .bits) (u .routes) (whole u) ≡ page bs
+  unfolding page
+  page-is (read.Accepted c) u e f = let g = filled-page e f in tables-text c u (g .room) (g .holding) ∙ sym (g .text)
+  page-is (read.Refused r at) u e f = sym (ap answerText (was-refused bs t enough e))
+
 -- ---- one answer
+
+-- a buffer for any page has room for one with so many prefixes
+pub page-room : {prefixes n : ℕ} → prefixes ≤ mostPrefixes → widestPage ≤ n → widest + widestBlock * prefixes ≤ n
+page-room {prefixes} few l =
+    let k : widestBlock * prefixes ≤ widestBlock * mostPrefixes = mul-le-mul-left widestBlock few in
+    omega arith
 
 pub rendered-text : (bs out : List ℕ) {end : ℕ} {after : List ℕ} → widestPage ≤ length out → Puts out after 0 end (page bs) → Renders bs out (Text end) after
 rendered-text bs out {end} {after} l p =

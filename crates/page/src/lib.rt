@@ -1,21 +1,18 @@
 // The printed forecast of a snapshot's bytes, put into a lent buffer.
 use refusal::Refusal;
 use scan::Read;
-use snapshot::Counts;
 ghost use mathlib.Core.Path.{_≡_};
-ghost use mathlib.Core.List.{_++_};
-ghost use Prim.Native.Nat.{ℕ, _+_, _-_, _*_, _≤_, _<_};
+ghost use Prim.Native.Nat.{_+_, _-_, _*_, _≤_, _<_};
 ghost use lib.ListN.{length, getD};
 ghost use Rattle.model.specs.Rows.{span};
 ghost use Rattle.model.specs.Decision.{none};
 ghost use Rattle.model.specs.Lent.{was, is, col};
 ghost use Rattle.snapshot.specs.Limits.{mostRouters};
-ghost use Rattle.snapshot.specs.Tables.{tables, columns as rowColumns};
 ghost use Rattle.model.specs.Columns.{columns, lentMesh};
 ghost use Rattle.outlook.specs.Outlook.{cut, Part};
 ghost use Rattle.text.specs.Text.{each, Puts};
-ghost use Rattle.lines.specs.Lines.{widest, headingLine, routerLine};
-ghost use Rattle.page.specs.Page.{Rows, block, widestBlock, decidedText, lentText, Blocks, Ready, page, Renders};
+ghost use Rattle.lines.specs.Lines.{widest, routerLine};
+ghost use Rattle.page.specs.Page.{Rows, block, widestBlock, decidedText, lentText, blank, Blocks, lentPage, Ready, Renders};
 
 // Puts the line of every router.
 fn put_routers(
@@ -75,12 +72,12 @@ fn put_decided(
     med: &[u32],
     nid: &[u32],
     peer: &[u32],
-    early: &mut [u16],
-    late: &mut [u16],
 ) -> usize
-    requires { ⌜ (at + widestBlock ≤ length (now out)) × Part routers first end (now ids) (now distances) (columns (now router) (now asn) (now preference) (now path) (now origin) (now med) (now nid) (now peer)) (now early) (now late) ⌝ }
+    requires { ⌜ (at + widestBlock ≤ length (now out)) × Part routers first end (now ids) (now distances) (columns (now router) (now asn) (now preference) (now path) (now origin) (now med) (now nid) (now peer)) blank blank ⌝ }
     ensures { λ next. ⌜ Puts (was out) (is out) at next (decidedText address bits (lentMesh routers (was ids) (was distances) (cut first (end - first) (columns (was router) (was asn) (was preference) (was path) (was origin) (was med) (was nid) (was peer))))) × (next ≤ at + widestBlock) ⌝ }
 {
+    let mut early = [0u16; snapshot::MOST_ROUTERS as usize];
+    let mut late = [0u16; snapshot::MOST_ROUTERS as usize];
     let d = outlook::shown(
         routers,
         first,
@@ -95,8 +92,8 @@ fn put_decided(
         med,
         nid,
         peer,
-        early,
-        late,
+        &mut early,
+        &mut late,
     );
     put_block(
         out,
@@ -129,10 +126,8 @@ fn put_prefixes(
     med: &[u32],
     nid: &[u32],
     peer: &[u32],
-    early: &mut [u16],
-    late: &mut [u16],
 ) -> usize
-    requires { ⌜ Blocks routers prefixes (now ids) (now distances) (now address) (now bits) (now routes) (columns (now router) (now asn) (now preference) (now path) (now origin) (now med) (now nid) (now peer)) (length (now early)) (length (now late)) ⌝ }
+    requires { ⌜ Blocks routers prefixes (now ids) (now distances) (now address) (now bits) (now routes) (columns (now router) (now asn) (now preference) (now path) (now origin) (now med) (now nid) (now peer)) ⌝ }
     requires { ⌜ at + widestBlock * prefixes ≤ length (now out) ⌝ }
     ensures { λ end. ⌜ Puts (was out) (is out) at end (each (lentText routers (was ids) (was distances) (was address) (was bits) (was routes) (columns (was router) (was asn) (was preference) (was path) (was origin) (was med) (was nid) (was peer))) (span 0 prefixes)) × (end ≤ at + widestBlock * prefixes) ⌝ }
 {
@@ -158,18 +153,16 @@ fn put_prefixes(
             med,
             nid,
             peer,
-            early,
-            late,
         );
         first = last;
     }
     end
 }
 
-// Puts the page of tables that hold a snapshot.
-fn put_tables(
+// Puts the page of what was read into lent tables.
+fn put_read(
+    read: Read,
     out: &mut [u8],
-    counts: Counts,
     ids: &[u32],
     distances: &[u32],
     address: &[u32],
@@ -183,98 +176,34 @@ fn put_tables(
     med: &[u32],
     nid: &[u32],
     peer: &[u32],
-    early: &mut [u16],
-    late: &mut [u16],
 ) -> usize
-    requires { ⌜ Blocks (counts .routers) (counts .prefixes) (now ids) (now distances) (now address) (now bits) (now routes) (columns (now router) (now asn) (now preference) (now path) (now origin) (now med) (now nid) (now peer)) (length (now early)) (length (now late)) ⌝ }
-    requires { ⌜ widest + widestBlock * counts .prefixes ≤ length (now out) ⌝ }
-    ensures { λ end. ⌜ Puts (was out) (is out) 0 end (headingLine (counts .routers) (counts .prefixes) ++ each (lentText (counts .routers) (was ids) (was distances) (was address) (was bits) (was routes) (columns (was router) (was asn) (was preference) (was path) (was origin) (was med) (was nid) (was peer))) (span 0 (counts .prefixes))) ⌝ }
+    requires { ⌜ Ready read (now ids) (now distances) (now address) (now bits) (now routes) (columns (now router) (now asn) (now preference) (now path) (now origin) (now med) (now nid) (now peer)) (length (now out)) ⌝ }
+    ensures { λ end. ⌜ Puts (was out) (is out) 0 end (lentPage read (was ids) (was distances) (was address) (was bits) (was routes) (columns (was router) (was asn) (was preference) (was path) (was origin) (was med) (was nid) (was peer))) ⌝ }
 {
-    let head = lines::put_heading(out, 0, counts.routers, counts.prefixes);
-    put_prefixes(
-        out,
-        head,
-        counts.routers as usize,
-        counts.prefixes as usize,
-        ids,
-        distances,
-        address,
-        bits,
-        routes,
-        router,
-        asn,
-        preference,
-        path,
-        origin,
-        med,
-        nid,
-        peer,
-        early,
-        late,
-    )
-}
-
-// Reads a snapshot into tables and areas that are lent for it, and puts its page.
-fn put_page(
-    input: &[u8],
-    out: &mut [u8],
-    ids: &mut [u32],
-    distances: &mut [u32],
-    address: &mut [u32],
-    bits: &mut [u32],
-    routes: &mut [u32],
-    router: &mut [u32],
-    asn: &mut [u32],
-    preference: &mut [u32],
-    path: &mut [u32],
-    origin: &mut [u32],
-    mark: &mut [u32],
-    med: &mut [u32],
-    nid: &mut [u32],
-    peer: &mut [u32],
-    early: &mut [u16],
-    late: &mut [u16],
-) -> usize
-    requires { ⌜ Ready (tables (now ids) (now distances) (now address) (now bits) (now routes) (rowColumns (now router) (now asn) (now preference) (now path) (now origin) (now mark) (now med) (now nid) (now peer))) (now early) (now late) (now out) ⌝ }
-    ensures { λ end. ⌜ Puts (was out) (is out) 0 end (page (was input)) ⌝ }
-{
-    match reader::read_snapshot(
-        input,
-        ids,
-        distances,
-        address,
-        bits,
-        routes,
-        router,
-        asn,
-        preference,
-        path,
-        origin,
-        mark,
-        med,
-        nid,
-        peer,
-    ) {
+    match read {
         Read::Refused(r, at) => lines::put_refused(out, 0, refusal::number(r), at),
-        Read::Accepted(counts) => put_tables(
-            out,
-            counts,
-            ids,
-            distances,
-            address,
-            bits,
-            routes,
-            router,
-            asn,
-            preference,
-            path,
-            origin,
-            med,
-            nid,
-            peer,
-            early,
-            late,
-        ),
+        Read::Accepted(counts) => {
+            let head = lines::put_heading(out, 0, counts.routers, counts.prefixes);
+            put_prefixes(
+                out,
+                head,
+                counts.routers as usize,
+                counts.prefixes as usize,
+                ids,
+                distances,
+                address,
+                bits,
+                routes,
+                router,
+                asn,
+                preference,
+                path,
+                origin,
+                med,
+                nid,
+                peer,
+            )
+        }
     }
 }
 
@@ -294,25 +223,22 @@ pub fn render(input: &[u8], out: &mut [u8]) -> Rendered
     if out.len() < PAGE {
         return Rendered::Refused(Refusal::Room, 0);
     }
-    let mut ids = [0u32; 64];
-    let mut distances = [0u32; 4096];
-    let mut address = [0u32; 64];
-    let mut bits = [0u32; 64];
-    let mut routes = [0u32; 64];
-    let mut router = [0u32; 1024];
-    let mut asn = [0u32; 1024];
-    let mut preference = [0u32; 1024];
-    let mut path = [0u32; 1024];
-    let mut origin = [0u32; 1024];
-    let mut mark = [0u32; 1024];
-    let mut med = [0u32; 1024];
-    let mut nid = [0u32; 1024];
-    let mut peer = [0u32; 1024];
-    let mut early = [0u16; 64];
-    let mut late = [0u16; 64];
-    let end = put_page(
+    let mut ids = [0u32; snapshot::MOST_ROUTERS as usize];
+    let mut distances = [0u32; snapshot::ROOM_DISTANCES];
+    let mut address = [0u32; snapshot::MOST_PREFIXES as usize];
+    let mut bits = [0u32; snapshot::MOST_PREFIXES as usize];
+    let mut routes = [0u32; snapshot::MOST_PREFIXES as usize];
+    let mut router = [0u32; snapshot::MOST_ROUTES as usize];
+    let mut asn = [0u32; snapshot::MOST_ROUTES as usize];
+    let mut preference = [0u32; snapshot::MOST_ROUTES as usize];
+    let mut path = [0u32; snapshot::MOST_ROUTES as usize];
+    let mut origin = [0u32; snapshot::MOST_ROUTES as usize];
+    let mut mark = [0u32; snapshot::MOST_ROUTES as usize];
+    let mut med = [0u32; snapshot::MOST_ROUTES as usize];
+    let mut nid = [0u32; snapshot::MOST_ROUTES as usize];
+    let mut peer = [0u32; snapshot::MOST_ROUTES as usize];
+    let read = reader::read_snapshot(
         input,
-        out,
         &mut ids,
         &mut distances,
         &mut address,
@@ -327,8 +253,23 @@ pub fn render(input: &[u8], out: &mut [u8]) -> Rendered
         &mut med,
         &mut nid,
         &mut peer,
-        &mut early,
-        &mut late,
+    );
+    let end = put_read(
+        read,
+        out,
+        &ids,
+        &distances,
+        &address,
+        &bits,
+        &routes,
+        &router,
+        &asn,
+        &preference,
+        &path,
+        &origin,
+        &med,
+        &nid,
+        &peer,
     );
     Rendered::Text(end)
 }

@@ -10,7 +10,7 @@ put-block-spec =
     (λ c κs.
     let begun : tie.Start = search needs in
     let head : tie.After-put-prefix = search needs in
-    ((begun .pre .0 .0, begun .pre .0 .1, omega (arith, begun .pre .0 .1, begun .pre .0 .2, head .put-prefix .ensures .1)), begun .pre .1))
+    ((omega arith, begun .pre .0 .1, omega (arith, begun .pre .0 .1, begun .pre .0 .2, head .put-prefix .ensures .1)), (search needs, search needs)))
     (λ c. search needs)
     (λ c.
     let begun : tie.Start = search needs in

@@ -1,8 +1,7 @@
 use Prim.Native.Nat.{ℕ, _+_, _-_}
 use native.Mathlib.Omega.{arith}
-use mathlib.Core.Path.{_≡_, refl, sym, ap₂, _∙_}
+use mathlib.Core.Path.{_≡_, refl, sym, ap₂}
 use denote.Ref.{now}
-use lib.ListN.{length}
 use borrow.Author.Needs.{needs}
 use Rattle.model.specs.Rows.{column, start}
 use Rattle.model.specs.Columns.{columns, lentMesh}
@@ -14,12 +13,12 @@ use Rattle.page.proofs.put_prefixes.Statement.{statement}
 use Rattle.page.proofs.put_prefixes.Tie as tie
 
 abbrev Inv-loop : tie.InvT-loop
-Inv-loop out₀ at routers prefixes ids distances address bits routes router asn preference path origin med nid peer early₀ late₀ end₀ first₀ p₀ out early late end first p =
+Inv-loop out₀ at routers prefixes ids distances address bits routes router asn preference path origin med nid peer end₀ first₀ p₀ out end first p =
     Lined (lentText routers ids distances address bits routes (columns router asn preference path origin med nid peer)) widestBlock out₀ at prefixes p end out
-    × (first ≡ start routes p) × (length early ≡ length early₀) × (length late ≡ length late₀)
+    × (first ≡ start routes p)
 
 abbrev μ-loop : tie.MeasureT-loop
-μ-loop out₀ at routers prefixes ids distances address bits routes router asn preference path origin med nid peer early₀ late₀ end₀ first₀ p₀ out early late end first p = prefixes - p
+μ-loop out₀ at routers prefixes ids distances address bits routes router asn preference path origin med nid peer end₀ first₀ p₀ out end first p = prefixes - p
 
 shared-slice-read-last : tie.Need-shared-slice-read-last Inv-loop μ-loop
 shared-slice-read-last c =
@@ -46,7 +45,7 @@ add-last c =
     let p = here .loop .p in
     let l = turn .loop-test .taken in
     let i = here .loop .inv in
-    let part = begun .pre .0 .part p (here .loop .first) (here .loop .first + column (now (a .routes)) p) l (i .1) refl (here .loop .early) (here .loop .late) (i .2) (i .3) in
+    let part = begun .pre .0 .part p (here .loop .first) (here .loop .first + column (now (a .routes)) p) l (i .1) refl in
     record { fits = omega (arith, part .fits) }
 
 put-decided-requires : tie.Need-put-decided-requires Inv-loop μ-loop
@@ -58,7 +57,7 @@ put-decided-requires c κs =
     let p = here .loop .p in
     let l = turn .loop-test .taken in
     let i = here .loop .inv in
-    (lined-room (i .0) l (begun .pre .1), begun .pre .0 .part p (here .loop .first) (here .loop .first + column (now (a .routes)) p) l (i .1) refl _ _ (i .2) (i .3))
+    (lined-room (i .0) l (begun .pre .1), begun .pre .0 .part p (here .loop .first) (here .loop .first + column (now (a .routes)) p) l (i .1) refl)
 
 abbrev begun-of : tie.After-put-decided Inv-loop μ-loop → tie.Start Inv-loop μ-loop
 begun-of put = search needs
@@ -88,8 +87,6 @@ loop-again c =
         text .1,
       ),
       omega (arith, i .1, start-next (now (a .routes)) p),
-      omega (arith, put .put-decided .kept, i .2),
-      omega (arith, put .put-decided .kept, i .3),
     )
 
 pub put-prefixes-spec : {M : Type 1} → statement M
@@ -97,7 +94,7 @@ put-prefixes-spec =
     tie.close (tie.spec Inv-loop μ-loop
     (λ c.
     let begun : tie.Start Inv-loop μ-loop = search needs in
-    (lined, sym (start-first (now (begun .args .routes))), refl, refl))
+    (lined, sym (start-first (now (begun .args .routes)))))
     (λ c. search needs) shared-slice-read-last cast-last add-last
     (λ c. search needs)
     (λ c.
@@ -126,7 +123,7 @@ put-prefixes-spec =
     (λ c.
     let put : tie.After-put-decided Inv-loop μ-loop = search needs in
     omega (arith, turn-of put .loop-test .taken))
-    loop-again (λ c. search needs) (λ c. search needs) (λ c. search needs)
+    loop-again (λ c. search needs)
     (λ c.
     let here : tie.At-loop Inv-loop μ-loop = search needs in
     let over : tie.After-loop Inv-loop μ-loop = search needs in
