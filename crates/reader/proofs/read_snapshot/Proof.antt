@@ -1,6 +1,5 @@
 -- `read_snapshot` meets its contract: each way out is a law of ReadLaws.antt. Assumes nothing.
 use borrow.Author.Needs.{needs}
-use native.Mathlib.Omega.{arith}
 use denote.Ref.{now}
 use mathlib.Core.Path.{_≡_, sym, _∙_}
 use mathlib.Core.Bool.{false}
