@@ -290,7 +290,7 @@ impl Cursor {
                 let n = wire::get8(input, at + 1);
                 match count_faults(n) {
                     Finding::Fault(f) => Step::Refused(f, at),
-                    Finding::Clear => Step::Took(self.past(2), n),
+                    Finding::Clear => Step::Took(self.past(snapshot::COUNT_SIZE), n),
                 }
             }
         }
@@ -310,7 +310,7 @@ impl Cursor {
                 let id = wire::get32(input, at + 2);
                 match router_faults(routers, ids, given, wire::get8(input, at + 1), id) {
                     Finding::Fault(f) => Step::Refused(f, at),
-                    Finding::Clear => Step::Took(self.past(6), id),
+                    Finding::Clear => Step::Took(self.past(snapshot::ROUTER_SIZE), id),
                 }
             }
         }
@@ -337,7 +337,7 @@ impl Cursor {
                     distance,
                 ) {
                     Finding::Fault(f) => Step::Refused(f, at),
-                    Finding::Clear => Step::Took(self.past(7), distance),
+                    Finding::Clear => Step::Took(self.past(snapshot::DISTANCE_SIZE), distance),
                 }
             }
         }
@@ -357,7 +357,7 @@ impl Cursor {
                 let p = network_at(input, at);
                 match prefix_faults(k, p) {
                     Finding::Fault(f) => PrefixStep::Refused(f, at),
-                    Finding::Clear => PrefixStep::Took(self.past(6), p),
+                    Finding::Clear => PrefixStep::Took(self.past(snapshot::PREFIX_SIZE), p),
                 }
             }
         }
@@ -378,7 +378,7 @@ impl Cursor {
                 let r = route_at(input, at);
                 match route_faults(k, r) {
                     Finding::Fault(f) => RouteStep::Refused(f, at),
-                    Finding::Clear => RouteStep::Took(self.past(24), r),
+                    Finding::Clear => RouteStep::Took(self.past(snapshot::ROUTE_SIZE), r),
                 }
             }
         }
@@ -396,8 +396,9 @@ impl Cursor {
             Finding::Clear => match end_faults(self.records, wire::get32(input, at + 1)) {
                 Finding::Fault(f) => EndStep::Refused(f, at),
                 Finding::Clear => {
-                    if at + 5 < input.len() {
-                        return EndStep::Refused(Refusal::Tail, at + 5);
+                    let behind = at + snapshot::END_SIZE;
+                    if behind < input.len() {
+                        return EndStep::Refused(Refusal::Tail, behind);
                     }
                     EndStep::Ended
                 }

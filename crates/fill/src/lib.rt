@@ -28,6 +28,12 @@ ghost use Rattle.fill.specs.Fill.{
 use cursor::Network;
 use snapshot::Route;
 
+// Where the first router's id stands: behind the count record, a kind byte and an index.
+const FIRST_ID: usize = snapshot::COUNT_SIZE + 2;
+
+// How far behind the routers the first distance stands: the count record, a kind byte and a pair.
+const FIRST_DISTANCE: usize = snapshot::COUNT_SIZE + 3;
+
 // Puts the ids of n routers into the front of a table.
 pub fn fill_ids(input: &[u8], n: usize, ids: &mut [u32])
     requires { ⌜ Spans (now input) n × (mostRouters ≤ length (now ids)) ⌝ }
@@ -35,7 +41,7 @@ pub fn fill_ids(input: &[u8], n: usize, ids: &mut [u32])
 {
     let mut i = 0;
     while i < n {
-        ids[i] = wire::get32(input, 6 * i + 4);
+        ids[i] = wire::get32(input, snapshot::ROUTER_SIZE * i + FIRST_ID);
         i += 1;
     }
 }
@@ -45,7 +51,7 @@ pub fn behind_distances(n: usize) -> usize
     requires { ⌜ (1 ≤ n) × (n ≤ mostRouters) ⌝ }
     ensures { λ r. ⌜ r ≡ behindDistances n ⌝ }
 {
-    6 * n + 2 + 7 * (n * (n - 1))
+    snapshot::ROUTER_SIZE * n + snapshot::COUNT_SIZE + snapshot::DISTANCE_SIZE * (n * (n - 1))
 }
 
 // How many pairs of a router come before the one with `to`.
@@ -67,7 +73,10 @@ fn distance_in(input: &[u8], n: usize, from: usize, to: usize) -> u32
         return 0;
     }
     let before = from * (n - 1) + before_in_row(from, to);
-    wire::get32(input, 7 * before + (6 * n + 5))
+    wire::get32(
+        input,
+        snapshot::DISTANCE_SIZE * before + (snapshot::ROUTER_SIZE * n + FIRST_DISTANCE),
+    )
 }
 
 // Puts the distances of n routers into a table, from times the stride, plus to; equal pairs hold 0.
@@ -127,7 +136,7 @@ pub fn is_route(input: &[u8], at: usize) -> bool
     ensures { λ r. ⌜ r ≡ isRoute (was input) at ⌝ }
 {
     let kind = cursor::kind_at(input, at);
-    (kind == 5) & (at + 24 <= input.len())
+    (kind == 5) & (at + snapshot::ROUTE_SIZE <= input.len())
 }
 
 // Puts the routes that stand from a place on into the columns, from a row on and while there is room; returns the row behind them.
@@ -159,7 +168,7 @@ pub fn fill_routes(
         }
         let r = cursor::route_at(input, at);
         let next = row + 1;
-        at += 24;
+        at += snapshot::ROUTE_SIZE;
         put_route(
             row,
             r,
@@ -223,14 +232,14 @@ fn fill_prefixes(
     let mut row = 0;
     let mut p = 0;
     while p < prefixes {
-        if input.len() < at + 6 {
+        if input.len() < at + snapshot::PREFIX_SIZE {
             return;
         }
         let next = p + 1;
         let network = cursor::network_at(input, at);
         let end = fill_routes(
             input,
-            at + 6,
+            at + snapshot::PREFIX_SIZE,
             row,
             snapshot::MOST_ROUTES as usize,
             router,
@@ -244,7 +253,7 @@ fn fill_prefixes(
             peer,
         );
         let inside = end - row;
-        at += 6 + 24 * inside;
+        at += snapshot::PREFIX_SIZE + snapshot::ROUTE_SIZE * inside;
         put_prefix(p, network, inside as u32, address, bits, routes);
         row = end;
         p = next;

@@ -18,7 +18,7 @@ fn behind_routes(input: &[u8], at: usize) -> usize
         if !fill::is_route(input, at) {
             return at;
         }
-        at += 24;
+        at += snapshot::ROUTE_SIZE;
         left -= 1;
     }
     at
@@ -32,10 +32,10 @@ fn place_of(input: &[u8], at: usize, more: usize) -> usize
     let mut at = at;
     let mut left = more;
     while 0 < left {
-        if input.len() < at + 6 {
+        if input.len() < at + snapshot::PREFIX_SIZE {
             return at;
         }
-        at = behind_routes(input, at + 6);
+        at = behind_routes(input, at + snapshot::PREFIX_SIZE);
         left -= 1;
     }
     at
@@ -62,7 +62,7 @@ fn load(
     ensures { λ rows. ⌜ Loaded (was input) n prefix (was ids) (was distances) (columns (was router) (was asn) (was preference) (was path) (was origin) (was mark) (was med) (was nid) (was peer))
         rows (is ids) (is distances) (columns (is router) (is asn) (is preference) (is path) (is origin) (is mark) (is med) (is nid) (is peer)) ⌝ }
 {
-    let routes = place_of(input, fill::behind_distances(n), prefix) + 6;
+    let routes = place_of(input, fill::behind_distances(n), prefix) + snapshot::PREFIX_SIZE;
     fill::fill_ids(input, n, ids);
     fill::fill_distances(input, n, distances);
     fill::fill_routes(

@@ -12,19 +12,6 @@ ghost use Rattle.snapshot.specs.Tables.{columns, Wide};
 ghost use Rattle.tables.specs.Judging.{routeAt};
 ghost use Rattle.records.specs.Putting.{frontForm, backWidths};
 
-// The bytes of a record of each kind, its kind byte among them.
-pub const COUNT_SIZE: usize = 2;
-
-pub const ROUTER_SIZE: usize = 6;
-
-pub const DISTANCE_SIZE: usize = 7;
-
-pub const PREFIX_SIZE: usize = 6;
-
-pub const ROUTE_SIZE: usize = 24;
-
-pub const END_SIZE: usize = 5;
-
 // The number of routers.
 pub fn put_count(out: &mut [u8], at: usize, n: u32)
     requires { ⌜ at + size countForm ≤ length (now out) ⌝ }

@@ -1,5 +1,5 @@
-// The snapshot: its definitions and theorems (open specs/Theorems.antt first), its limits, and the tests of its ranges, which
-// reading, the judging of tables and edits share.
+// The snapshot: its definitions and theorems (open specs/Theorems.antt first), its limits, the sizes of its records, and the tests
+// of its ranges and of the tables' room, which reading and the judging of tables share.
 ghost use mathlib.Core.Path.{_≡_};
 ghost use mathlib.Core.Bool.{not};
 ghost use Rattle.snapshot.specs.Ranges.{anyOf, countTests, idTests, distanceTests, prefixTests, routeTests, rises};
@@ -29,6 +29,19 @@ pub const LAST_ASN: u32 = 65534;
 pub const LONGEST_PATH: u32 = 65535;
 
 pub const LAST_ORIGIN: u32 = 2;
+
+// The bytes of a record of each kind, its kind byte among them.
+pub const COUNT_SIZE: usize = 2;
+
+pub const ROUTER_SIZE: usize = 6;
+
+pub const DISTANCE_SIZE: usize = 7;
+
+pub const PREFIX_SIZE: usize = 6;
+
+pub const ROUTE_SIZE: usize = 24;
+
+pub const END_SIZE: usize = 5;
 
 // How many of each the tables hold.
 pub struct Counts {

@@ -31,7 +31,7 @@ fn put_ids(n: usize, ids: &[u32], out: &mut [u8], first: usize) -> usize
     let mut k = 0;
     while k < n {
         records::put_router(out, at, k as u32, ids[k]);
-        at += records::ROUTER_SIZE;
+        at += snapshot::ROUTER_SIZE;
         k += 1;
     }
     at
@@ -57,7 +57,7 @@ fn put_row(n: usize, distances: &[u32], from: usize, out: &mut [u8], first: usiz
             distances,
             from * snapshot::STRIDE + to,
         );
-        at += records::DISTANCE_SIZE;
+        at += snapshot::DISTANCE_SIZE;
         to += 1;
     }
     at
@@ -84,7 +84,7 @@ fn put_network(n: usize, ids: &[u32], distances: &[u32], out: &mut [u8]) -> usiz
     ensures { λ r. ⌜ Puts (networkBytes (was ids) (was distances) n) (was out) 0 (is out) r ⌝ }
 {
     records::put_count(out, 0, n as u32);
-    let at = put_ids(n, ids, out, records::COUNT_SIZE);
+    let at = put_ids(n, ids, out, snapshot::COUNT_SIZE);
     put_distances(n, distances, out, at)
 }
 
@@ -124,7 +124,7 @@ fn put_routes(
             peer,
             row + k,
         );
-        at += records::ROUTE_SIZE;
+        at += snapshot::ROUTE_SIZE;
         k += 1;
     }
     at
@@ -168,7 +168,7 @@ fn put_prefix(
         row,
         count,
         out,
-        first + records::PREFIX_SIZE,
+        first + snapshot::PREFIX_SIZE,
     )
 }
 
@@ -238,12 +238,12 @@ fn size(counts: Counts) -> usize
     ensures { λ r. ⌜ r ≡ sizeOf counts ⌝ }
 {
     let pairs = pair_count(counts.routers);
-    records::COUNT_SIZE
-        + records::ROUTER_SIZE * (counts.routers as usize)
-        + records::DISTANCE_SIZE * (pairs as usize)
-        + records::PREFIX_SIZE * (counts.prefixes as usize)
-        + records::ROUTE_SIZE * (counts.routes as usize)
-        + records::END_SIZE
+    snapshot::COUNT_SIZE
+        + snapshot::ROUTER_SIZE * (counts.routers as usize)
+        + snapshot::DISTANCE_SIZE * (pairs as usize)
+        + snapshot::PREFIX_SIZE * (counts.prefixes as usize)
+        + snapshot::ROUTE_SIZE * (counts.routes as usize)
+        + snapshot::END_SIZE
 }
 
 // Its records before the end record.
@@ -300,7 +300,7 @@ fn write_held(
         at,
     );
     records::put_end(out, at, records);
-    Write::Written(at + records::END_SIZE)
+    Write::Written(at + snapshot::END_SIZE)
 }
 
 // Writes the snapshot that counts and tables hold to the start of the output. Refused as ROOM where a table is shorter than its limit,

@@ -44,7 +44,6 @@ end-spec =
     (λ c. search needs)
     (λ c. search needs)
     (λ c. omega (arith, whole (search needs)))
-    (λ c. omega (arith, whole (search needs)))
     (λ c.
     let s : tie.Start = search needs in
     let o : tie.After-opening = search needs in
