@@ -11,7 +11,7 @@ use mathlib.Core.Bool.{Bool, true, false}
 use mathlib.Core.List.{List, [], _∷_, _++_, append-nil, append-assoc, map-id}
 use lib.Dec.{eqb}
 use lib.ListN.{length, getD, take, drop, set, length-set, length-append, length-take, length-drop, drop-of-length-le, take-append-drop}
-use lib.Seq.{sets, sets-eq, length-sets, set-append-left, take-append-seam, drop-cons, drop-drop, drop-set-lt, take-suc-set, take-append-le, take-length, length-take-le, append-snoc, getD-take, getD-drop, getD-set-same, getD-set-other}
+use lib.Seq.{sets, sets-eq, length-sets, set-append-left, take-append-seam, drop-append-seam, drop-cons, drop-drop, drop-set-lt, take-suc-set, take-append-le, take-length, length-take-le, append-snoc, getD-take, getD-drop, getD-set-same, getD-set-other}
 use borrow.Author.Tests.{eqb-true, eqb-false}
 use Rattle.model.specs.Rows.{keep, some, span, greatest, keepLeast, column}
 use Rattle.model.specs.Contest.{leastOr}
@@ -156,6 +156,14 @@ packed-next step {n} {m} {before} {list} {lent} {rows} p q =
       all = ap (λ (front : List ℕ). front ++ drop n list) (q .all) ∙ sym (sets-left (take n list) (drop n list) 0 kept (omega (arith, q .room)))
           ∙ ap (λ (xs : List ℕ). sets xs 0 kept) (take-append-drop n list ∙ p .all);
     }) (ap step (packed-front p .are))
+
+-- as many others in their place
+pub packed-over : {n : ℕ} {before list rows others : List ℕ} → Packed n before list rows → length others ≡ n → Packed n before (others ++ drop n list) others
+packed-over {n} {before} {list} {rows} {others} p e =
+    let room : length others ≤ length before = omega (arith, p .many, p .room) in
+    let behind : drop n list ≡ drop (length others) before =
+        ap₂ drop (p .many) (p .all ∙ sets-front before rows (p .room)) ∙ drop-append-seam rows (drop (length rows) before) ∙ ap (λ (k : ℕ). drop k before) (sym (e ∙ p .many)) in
+    record { many = sym e; room = room; all = ap (λ (rest : List ℕ). others ++ rest) behind ∙ sym (sets-front before others room) }
 
 -- what is packed into a part behind them is packed with them
 pub packed-append : {n m : ℕ} {before list lent a b : List ℕ} (k : ℕ) → Packed n before list a → Packed m (take k (drop n list)) lent b
