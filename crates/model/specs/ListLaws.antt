@@ -162,7 +162,7 @@ pub packed-over : {n : ℕ} {before list rows others : List ℕ} → Packed n be
 packed-over {n} {before} {list} {rows} {others} p e =
     let room : length others ≤ length before = omega (arith, p .many, p .room) in
     let behind : drop n list ≡ drop (length others) before =
-        ap₂ drop (p .many) (p .all ∙ sets-front before rows (p .room)) ∙ drop-append-seam rows (drop (length rows) before) ∙ ap (λ (k : ℕ). drop k before) (sym (e ∙ p .many)) in
+    ap₂ drop (p .many) (p .all ∙ sets-front before rows (p .room)) ∙ drop-append-seam rows (drop (length rows) before) ∙ ap (λ (k : ℕ). drop k before) (sym (e ∙ p .many)) in
     record { many = sym e; room = room; all = ap (λ (rest : List ℕ). others ++ rest) behind ∙ sym (sets-front before others room) }
 
 -- what is packed into a part behind them is packed with them
