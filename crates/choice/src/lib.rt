@@ -6,7 +6,7 @@ ghost use lib.ListN.{length, getD};
 ghost use lib.Dec.{eqb};
 ghost use Rattle.model.specs.Rows.{keep, some, span, column, keepLeast, keepGreatest};
 ghost use Rattle.model.specs.Decision.{none, beatsBy, unbeatenBy};
-ghost use Rattle.model.specs.Lent.{was, is, col, Inside, Front};
+ghost use Rattle.model.specs.Lent.{was, is, col, Inside, Front, Packed, afterTwo};
 ghost use Rattle.model.specs.Columns.{mostRouters, mostRows, columns, choiceOf, distanceIn, Placed};
 
 // The row that a router chooses, or none.
@@ -44,7 +44,7 @@ fn available(router: &[u32], held: &[u16], r: u32, rows: &mut [u16]) -> usize
 // 1. The highest local preference.
 fn highest_preference(preference: &[u32], rows: &mut [u16]) -> usize
     requires { ⌜ Inside (length (now preference)) (now rows) ⌝ }
-    ensures { λ n. ⌜ Front n (is rows) (keepGreatest (col preference) (was rows)) ⌝ }
+    ensures { λ n. ⌜ Packed n (was rows) (is rows) (keepGreatest (col preference) (was rows)) ⌝ }
 {
     let high = rows::greatest(preference, rows);
     rows::keep_equal(preference, rows, high)
@@ -53,7 +53,7 @@ fn highest_preference(preference: &[u32], rows: &mut [u16]) -> usize
 // 2. The shortest AS path.
 fn shortest_path(path: &[u32], rows: &mut [u16]) -> usize
     requires { ⌜ Inside (length (now path)) (now rows) ⌝ }
-    ensures { λ n. ⌜ Front n (is rows) (keepLeast (col path) (was rows)) ⌝ }
+    ensures { λ n. ⌜ Packed n (was rows) (is rows) (keepLeast (col path) (was rows)) ⌝ }
 {
     rows::keep_least(path, rows)
 }
@@ -61,7 +61,7 @@ fn shortest_path(path: &[u32], rows: &mut [u16]) -> usize
 // 3. The lowest origin (0 IGP, 1 EGP, 2 incomplete).
 fn lowest_origin(origin: &[u32], rows: &mut [u16]) -> usize
     requires { ⌜ Inside (length (now origin)) (now rows) ⌝ }
-    ensures { λ n. ⌜ Front n (is rows) (keepLeast (col origin) (was rows)) ⌝ }
+    ensures { λ n. ⌜ Packed n (was rows) (is rows) (keepLeast (col origin) (was rows)) ⌝ }
 {
     rows::keep_least(origin, rows)
 }
@@ -69,7 +69,7 @@ fn lowest_origin(origin: &[u32], rows: &mut [u16]) -> usize
 // Steps 1 to 3.
 pub fn preferred(preference: &[u32], path: &[u32], origin: &[u32], rows: &mut [u16]) -> usize
     requires { ⌜ Inside (length (now preference)) (now rows) × Inside (length (now path)) (now rows) × Inside (length (now origin)) (now rows) ⌝ }
-    ensures { λ n. ⌜ Front n (is rows) (keepLeast (col origin) (keepLeast (col path) (keepGreatest (col preference) (was rows)))) ⌝ }
+    ensures { λ n. ⌜ Packed n (afterTwo (col preference) (col path) (was rows)) (is rows) (keepLeast (col origin) (keepLeast (col path) (keepGreatest (col preference) (was rows)))) ⌝ }
 {
     let high = highest_preference(preference, rows);
     let short = shortest_path(path, &mut rows[..high]);
@@ -88,7 +88,7 @@ fn beats(asn: &[u32], med: &[u32], p: usize, q: usize) -> bool
 // has a lower MED. It looks at the whole kept list, so its answer goes into another.
 pub fn unbeaten(asn: &[u32], med: &[u32], rows: &[u16], left: &mut [u16]) -> usize
     requires { ⌜ Inside (length (now asn)) (now rows) × Inside (length (now med)) (now rows) × (length (now rows) ≤ length (now left)) ⌝ }
-    ensures { λ n. ⌜ Front n (is left) (unbeatenBy (beatsBy (col asn) (col med)) (was rows) (was rows)) ⌝ }
+    ensures { λ n. ⌜ Packed n (was left) (is left) (unbeatenBy (beatsBy (col asn) (col med)) (was rows) (was rows)) ⌝ }
 {
     let mut n: usize = 0;
     for i in 0..rows.len() {
@@ -200,7 +200,7 @@ fn lowest_id(
 // 8. The lowest peer address.
 fn lowest_peer(peer: &[u32], rows: &mut [u16]) -> usize
     requires { ⌜ Inside (length (now peer)) (now rows) ⌝ }
-    ensures { λ n. ⌜ Front n (is rows) (keepLeast (col peer) (was rows)) ⌝ }
+    ensures { λ n. ⌜ Packed n (was rows) (is rows) (keepLeast (col peer) (was rows)) ⌝ }
 {
     rows::keep_least(peer, rows)
 }

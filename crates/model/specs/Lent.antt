@@ -5,7 +5,8 @@ use mathlib.Core.List.{List}
 use denote.Triple.Both.{Both}
 use denote.Ref.{RefT}
 use lib.ListN.{length, take}
-use Rattle.model.specs.Rows.{column}
+use lib.Seq.{sets}
+use Rattle.model.specs.Rows.{column, keepLeast, keepGreatest}
 
 -- what the slice holds at entry, and, of a `&mut`, at exit
 abbrev pub was : {X E : Type 0} → Both (RefT X) E → X
@@ -26,3 +27,15 @@ pub record Inside (n : ℕ) (rows : List ℕ) : Type 0 where
 pub record Front (n : ℕ) (list rows : List ℕ) : Type 0 where
   pub few : n ≤ length list
   pub are : take n list ≡ rows
+
+-- these rows, n of them, are written over the front of a list; the entries behind them are as before
+pub record Packed (n : ℕ) (before after rows : List ℕ) : Type 0 where
+  pub many : n ≡ length rows
+  pub room : length rows ≤ length before
+  pub all : after ≡ sets before 0 rows
+
+-- a list of rows after steps 1 and 2 in place: the rows that each leaves, written over its front in turn
+abbrev pub afterTwo : (ℕ → ℕ) → (ℕ → ℕ) → List ℕ → List ℕ
+afterTwo preference path rows =
+    let kept = keepGreatest preference rows in
+    sets (sets rows 0 kept) 0 (keepLeast path kept)

@@ -8,18 +8,19 @@ use native.Mathlib.Omega.{arith}
 use mathlib.Core.Path.{_≡_, refl, sym, ap, ap₂, subst, _∙_}
 use mathlib.Core.Logic.{_⊎_, inl, inr, ⊎-elim}
 use mathlib.Core.Bool.{Bool, true, false}
-use mathlib.Core.List.{List, [], _∷_, _++_, append-nil, map-id}
+use mathlib.Core.List.{List, [], _∷_, _++_, append-nil, append-assoc, map-id}
 use lib.Dec.{eqb}
-use lib.ListN.{length, getD, take, drop, set, length-set, length-append, length-take, length-drop, drop-of-length-le}
-use lib.Seq.{drop-cons, drop-drop, drop-set-lt, take-suc-set, take-append-le, take-length, length-take-le, append-snoc, getD-take, getD-drop, getD-set-same, getD-set-other}
+use lib.ListN.{length, getD, take, drop, set, length-set, length-append, length-take, length-drop, drop-of-length-le, take-append-drop}
+use lib.Seq.{sets, sets-eq, length-sets, set-append-left, take-append-seam, drop-append-seam, drop-cons, drop-drop, drop-set-lt, take-suc-set, take-append-le, take-length, length-take-le, append-snoc, getD-take, getD-drop, getD-set-same, getD-set-other}
 use borrow.Author.Tests.{eqb-true, eqb-false}
 use Rattle.model.specs.Rows.{keep, some, span, greatest, keepLeast, column}
 use Rattle.model.specs.Contest.{leastOr}
-use Rattle.model.specs.Lent.{Inside, Front}
+use Rattle.model.specs.Lent.{Inside, Front, Packed}
 use Rattle.model.specs.Listing.{firstPlace}
 use Rattle.model.specs.RowLaws.{by, In, here, there, nowhere, in-cases, Agree, in-span, table-at, count-length, count-le, count-all}
 use Rattle.model.specs.LeastLaws.{Picks, leastOr-past, leastOr-lower, keepLeast-agree}
 use Rattle.model.specs.LoopLaws.{Stored, stored-end}
+use Rattle.model.specs.ColumnLaws.{sets-append}
 
 -- the rows from place i on are the row there and those after it
 drop-next : (rows : List ℕ) (i : ℕ) → i < length rows → drop i rows ≡ column rows i ∷ drop (i + 1) rows
@@ -104,19 +105,80 @@ front-next step {n} {m} {list} {lent} f g = record {
 pub front-wider : {n : ℕ} {list rows : List ℕ} (rest : List ℕ) → Front n list rows → Front n (list ++ rest) rows
 front-wider {n} {list} rest f = record { few = omega (arith, f .few, length-append list rest); are = take-append-le n list rest (f .few) ∙ f .are }
 
--- a front, and behind it another
-take-plus : (xs ys : List ℕ) (n : ℕ) → take (length xs + n) (xs ++ ys) ≡ xs ++ take n ys
-take-plus [] ys n = let z : 0 + n ≡ n = omega arith in rw z
-take-plus (x ∷ xs) ys n =
-    let z : suc (length xs) + n ≡ suc (length xs + n) = omega arith in
-    rw z (ap (λ (rest : List ℕ). x ∷ rest) (take-plus xs ys n))
+-- ---- rows packed into the front of a list
 
-pub front-append : {n m : ℕ} {list lent a b : List ℕ} → Front n list a → Front m lent b → Front (n + m) (take n list ++ lent) (a ++ b)
-front-append {n} {m} {list} {lent} f g =
-    let long = length-take-le n list (f .few) in
+sets-front : (list rows : List ℕ) → length rows ≤ length list → sets list 0 rows ≡ rows ++ drop (length rows) list
+sets-front list rows l = let e : 0 + length rows ≡ length rows = omega arith in sets-eq rows list 0 (omega arith) ∙ ap (λ (k : ℕ). rows ++ drop k list) e
+
+sets-left : (xs ys : List ℕ) (i : ℕ) (rows : List ℕ) → i + length rows ≤ length xs → sets (xs ++ ys) i rows ≡ sets xs i rows ++ ys
+sets-left xs ys i [] l = refl
+sets-left xs ys i (q ∷ rows) l =
+    ap (λ (list : List ℕ). sets list (suc i) rows) (set-append-left xs ys i q (omega arith)) ∙ sets-left (set xs i q) ys (suc i) rows (omega (arith, length-set xs i q))
+
+sets-part : (list : List ℕ) (n : ℕ) (rows : List ℕ) → n + length rows ≤ length list → take n list ++ sets (drop n list) 0 rows ≡ sets list n rows
+sets-part list n rows l =
+    ap (λ (rest : List ℕ). take n list ++ rest) (sets-front (drop n list) rows (omega (arith, length-drop n list)) ∙ ap (λ (rest : List ℕ). rows ++ rest) (drop-drop (length rows) n list))
+    ∙ sym (sets-eq rows list n l ∙ append-assoc (take n list) rows (drop (n + length rows) list))
+
+-- they are its front, and it is as long as before
+pub packed-front : {n : ℕ} {before after rows : List ℕ} → Packed n before after rows → Front n after rows
+packed-front {n} {before} {after} {rows} p = record {
+  few = omega (arith, p .many, p .room, ap length (p .all), length-sets before 0 rows);
+  are = ap₂ take (p .many) (p .all ∙ sets-front before rows (p .room)) ∙ take-append-seam rows (drop (length rows) before);
+}
+
+pub packed-long : {n : ℕ} {before after rows : List ℕ} → Packed n before after rows → length after ≡ length before
+packed-long {before} {rows} p = ap length (p .all) ∙ length-sets before 0 rows
+
+-- a front, where the entries behind it are as before
+packed-by : {n : ℕ} {before after rows : List ℕ} → length after ≡ length before → Front n after rows → drop n after ≡ drop n before → Packed n before after rows
+packed-by {n} {before} {after} {rows} long f behind =
+    let many : n ≡ length rows = front-long f ∙ ap length (f .are) in
+    let room : length rows ≤ length before = omega (arith, f .few) in
     record {
-      few = omega (arith, long, g .few, length-append (take n list) lent);
-      are = ap (λ (k : ℕ). take (k + m) (take n list ++ lent)) (sym long) ∙ take-plus (take n list) lent m ∙ ap₂ (λ (x y : List ℕ). x ++ y) (f .are) (g .are);
+      many = many;
+      room = room;
+      all = sym (take-append-drop n after) ∙ ap₂ (λ (x y : List ℕ). x ++ y) (f .are) behind ∙ ap (λ (k : ℕ). rows ++ drop k before) many ∙ sym (sets-front before rows room);
+    }
+
+-- the same rows, by another name
+pub packed-is : {n : ℕ} {before after rows others : List ℕ} → Packed n before after rows → rows ≡ others → Packed n before after others
+packed-is {n} {before} {after} p e = subst (Packed n before after) e p
+
+-- what a step packs into that front where it is lent to it is packed into the whole list
+pub packed-next : (step : List ℕ → List ℕ) {n m : ℕ} {before list lent rows : List ℕ}
+    → Packed n before list rows → Packed m (take n list) lent (step (take n list)) → Packed m (sets before 0 rows) (lent ++ drop n list) (step rows)
+packed-next step {n} {m} {before} {list} {lent} {rows} p q =
+    let kept = step (take n list) in
+    packed-is (record {
+      many = q .many;
+      room = omega (arith, q .room, length-take n list, ap length (p .all));
+      all = ap (λ (front : List ℕ). front ++ drop n list) (q .all) ∙ sym (sets-left (take n list) (drop n list) 0 kept (omega (arith, q .room)))
+          ∙ ap (λ (xs : List ℕ). sets xs 0 kept) (take-append-drop n list ∙ p .all);
+    }) (ap step (packed-front p .are))
+
+-- as many others in their place
+pub packed-over : {n : ℕ} {before list rows others : List ℕ} → Packed n before list rows → length others ≡ n → Packed n before (others ++ drop n list) others
+packed-over {n} {before} {list} {rows} {others} p e =
+    let room : length others ≤ length before = omega (arith, p .many, p .room) in
+    let behind : drop n list ≡ drop (length others) before =
+    ap₂ drop (p .many) (p .all ∙ sets-front before rows (p .room)) ∙ drop-append-seam rows (drop (length rows) before) ∙ ap (λ (k : ℕ). drop k before) (sym (e ∙ p .many)) in
+    record { many = sym e; room = room; all = ap (λ (rest : List ℕ). others ++ rest) behind ∙ sym (sets-front before others room) }
+
+-- what is packed into a part behind them is packed with them
+pub packed-append : {n m : ℕ} {before list lent a b : List ℕ} (k : ℕ) → Packed n before list a → Packed m (take k (drop n list)) lent b
+    → Packed (n + m) before (take n list ++ (lent ++ drop k (drop n list))) (a ++ b)
+packed-append {n} {m} {before} {list} {lent} {a} {b} k p q =
+    let rest = drop n list in
+    let room : n + length b ≤ length list = omega (arith, packed-front p .few, q .room, length-take k rest, length-drop n list) in
+    record {
+      many = omega (arith, p .many, q .many, length-append a b);
+      room = omega (arith, room, p .many, packed-long p, length-append a b);
+      all = ap (λ (xs : List ℕ). take n list ++ (xs ++ drop k rest)) (q .all)
+          ∙ ap (λ (xs : List ℕ). take n list ++ xs) (sym (sets-left (take k rest) (drop k rest) 0 b (omega (arith, q .room))) ∙ ap (λ (xs : List ℕ). sets xs 0 b) (take-append-drop k rest))
+          ∙ sets-part list n b room
+          ∙ ap₂ (λ (xs : List ℕ) (i : ℕ). sets xs i b) (p .all) (omega (arith, p .many))
+          ∙ sets-append before 0 a b;
     }
 
 -- no step adds rows
@@ -254,27 +316,41 @@ module _ {key : ℕ → ℕ} {rows : List ℕ} where
       pub higher-on : high < k → Higher key rows (i + 1) k
       higher-on h = record { at = along-next (s .at) l (λ rest. omega arith) }
 
+-- where two lists are the same from a place on, they are at it
+pub ahead-here : (xs ys : List ℕ) (i : ℕ) → drop i xs ≡ drop i ys → column xs i ≡ column ys i
+ahead-here xs ys i e = here-at xs ∙ ap (λ (rest : List ℕ). getD rest 0 0) e ∙ sym (here-at ys)
+  where
+    here-at : (zs : List ℕ) → column zs i ≡ getD (drop i zs) 0 0
+    here-at zs = ap (column zs) (omega arith) ∙ sym (getD-drop i zs 0 0)
+
+-- so they are from a later place on
+ahead-later : (xs ys : List ℕ) (k i : ℕ) → drop i xs ≡ drop i ys → drop (i + k) xs ≡ drop (i + k) ys
+ahead-later xs ys k i e = sym (drop-drop k i xs) ∙ ap (drop k) e ∙ drop-drop k i ys
+
 -- ---- a loop that packs the rows that pass a test into the front of room that is lent, n of them so far
 pub record Pack (test : ℕ → Bool) (rows out₀ : List ℕ) (i n : ℕ) (out : List ℕ) : Type 0 where
   pub at : Along (keep test rows) (λ rest. take n out ++ keep test rest) rows i
   pub few : n ≤ i
   pub room : length rows ≤ length out₀
   pub long : length out ≡ length out₀
+  pub behind : drop n out ≡ drop n out₀
 
 module _ {test : ℕ → Bool} {rows out₀ : List ℕ} where
   pub pack : length rows ≤ length out₀ → Pack test rows out₀ 0 0 out₀
-  pack l = record { at = along refl; few = zero-le; room = l; long = refl }
+  pack l = record { at = along refl; few = zero-le; room = l; long = refl; behind = refl }
 
   module _ {i n : ℕ} {out : List ℕ} (s : Pack test rows out₀ i n out) where
-    pub pack-end : length rows ≤ i → Front n out (keep test rows)
-    pack-end l = record { few = omega (arith, s .at .within, s .few, s .room, s .long); are = sym (along-end (s .at) l ∙ append-nil (take n out)) }
+    pub pack-end : length rows ≤ i → Packed n out₀ out (keep test rows)
+    pack-end l = packed-by (s .long)
+        (record { few = omega (arith, s .at .within, s .few, s .room, s .long); are = sym (along-end (s .at) l ∙ append-nil (take n out)) })
+        (s .behind)
 
     pub pack-room : i < length rows → n < length out
     pack-room l = omega (arith, s .few, s .room, s .long)
 
     module _ {b : Bool} (l : i < length rows) (e : b ≡ test (column rows i)) where
       pub pack-off : b ≡ false → Pack test rows out₀ (i + 1) n out
-      pack-off h = record { at = along-next (s .at) l (λ rest. rw (sym e ∙ h)); few = omega (arith, s .few); room = s .room; long = s .long }
+      pack-off h = record { at = along-next (s .at) l (λ rest. rw (sym e ∙ h)); few = omega (arith, s .few); room = s .room; long = s .long; behind = s .behind }
 
       pub pack-on : {v : ℕ} → b ≡ true → v ≡ column rows i → Pack test rows out₀ (i + 1) (n + 1) (set out n v)
       pack-on {v} h k = record {
@@ -284,44 +360,27 @@ module _ {test : ℕ → Bool} {rows out₀ : List ℕ} where
         few = omega (arith, s .few);
         room = s .room;
         long = length-set out n v ∙ s .long;
+        behind = drop-set-lt (n + 1) out n v (omega arith) ∙ ahead-later out out₀ 1 n (s .behind);
       }
-
--- where two lists are the same from a place on, they are at it
-pub ahead-here : (xs ys : List ℕ) (i : ℕ) → drop i xs ≡ drop i ys → column xs i ≡ column ys i
-ahead-here xs ys i e = here-at xs ∙ ap (λ (rest : List ℕ). getD rest 0 0) e ∙ sym (here-at ys)
-  where
-    here-at : (zs : List ℕ) → column zs i ≡ getD (drop i zs) 0 0
-    here-at zs = ap (column zs) (omega arith) ∙ sym (getD-drop i zs 0 0)
 
 -- ---- the same in place
-pub record Squeeze (test : ℕ → Bool) (rows₀ : List ℕ) (i n : ℕ) (rows : List ℕ) : Type 0 where
-  pub at : Pack test rows₀ rows₀ i n rows
-  pub ahead : drop i rows ≡ drop i rows₀
-
 module _ {test : ℕ → Bool} {rows₀ : List ℕ} where
-  pub squeeze : Squeeze test rows₀ 0 0 rows₀
-  squeeze = record { at = pack (le-refl (length rows₀)); ahead = refl }
+  pub squeeze : Pack test rows₀ rows₀ 0 0 rows₀
+  squeeze = pack (le-refl (length rows₀))
 
-  module _ {i n : ℕ} {rows : List ℕ} (s : Squeeze test rows₀ i n rows) where
-    pub squeeze-end : length rows₀ ≤ i → Front n rows (keep test rows₀)
-    squeeze-end l = pack-end (s .at) l
-
+  module _ {i n : ℕ} {rows : List ℕ} (s : Pack test rows₀ rows₀ i n rows) where
     -- the row at i is not stored over yet
     pub squeeze-here : column rows i ≡ column rows₀ i
-    squeeze-here = ahead-here rows rows₀ i (s .ahead)
-
-    squeeze-ahead : drop (i + 1) rows ≡ drop (i + 1) rows₀
-    squeeze-ahead = sym (drop-drop 1 i rows) ∙ ap (drop 1) (s .ahead) ∙ drop-drop 1 i rows₀
+    squeeze-here =
+        let e : n + (i - n) ≡ i = omega (arith, s .few) in
+        ahead-here rows rows₀ i (rw e at (ahead-later rows rows₀ (i - n) n (s .behind)))
 
     module _ {b : Bool} (l : i < length rows₀) (e : b ≡ test (column rows i)) where
-      pub squeeze-off : b ≡ false → Squeeze test rows₀ (i + 1) n rows
-      squeeze-off h = record { at = pack-off (s .at) l (e ∙ ap test squeeze-here) h; ahead = squeeze-ahead }
+      pub squeeze-off : b ≡ false → Pack test rows₀ rows₀ (i + 1) n rows
+      squeeze-off h = pack-off s l (e ∙ ap test squeeze-here) h
 
-      pub squeeze-on : {v : ℕ} → b ≡ true → v ≡ column rows i → Squeeze test rows₀ (i + 1) (n + 1) (set rows n v)
-      squeeze-on {v} h k = record {
-        at = pack-on (s .at) l (e ∙ ap test squeeze-here) h (k ∙ squeeze-here);
-        ahead = drop-set-lt (i + 1) rows n v (omega (arith, s .at .few)) ∙ squeeze-ahead;
-      }
+      pub squeeze-on : {v : ℕ} → b ≡ true → v ≡ column rows i → Pack test rows₀ rows₀ (i + 1) (n + 1) (set rows n v)
+      squeeze-on h k = pack-on s l (e ∙ ap test squeeze-here) h (k ∙ squeeze-here)
 
 -- ---- a loop that stores a key for each row of a list, and has done so for those before place i
 pub record Keyed (f : ℕ → ℕ) (rows : List ℕ) (key₀ : List ℕ) (i : ℕ) (key : List ℕ) : Type 0 where
@@ -348,8 +407,8 @@ module _ {f : ℕ → ℕ} {rows key₀ : List ℕ} where
     keyed-all l q m = ⊎-elim (λ e. e) (λ k. absurd (nowhere (subst (In q) (drop-of-length-le rows l) k))) (s .done q m)
 
     -- so keeping the rows with the least of what was stored is keeping those with the least of what it was computed by
-    pub keyed-least : {n : ℕ} {list : List ℕ} → length rows ≤ i → Front n list (keepLeast (column key) rows) → Front n list (keepLeast f rows)
-    keyed-least l e = front-is e (keepLeast-agree (column key) f rows (keyed-all l))
+    pub keyed-least : {n : ℕ} {before after : List ℕ} → length rows ≤ i → Packed n before after (keepLeast (column key) rows) → Front n after (keepLeast f rows)
+    keyed-least l p = front-is (packed-front p) (keepLeast-agree (column key) f rows (keyed-all l))
 
 -- ---- every row, listed
 pub span-at : (n i : ℕ) → i < n → column (span 0 n) i ≡ i

@@ -18,8 +18,8 @@ use Rattle.model.specs.ContestLaws.{times-stays}
 use Rattle.model.specs.LeastLaws.{leastOr-append}
 use Rattle.model.specs.Columns.{mostRows, pastKeys}
 use Rattle.model.specs.Listing.{ownRows, unbeatenRuns, ownPlaces, passedRows, firstPlace, roundBy, Ready}
-use Rattle.model.specs.Lent.{Front}
-use Rattle.model.specs.ListLaws.{front-is, front-long, front-wider, front-append, keep-short}
+use Rattle.model.specs.Lent.{Packed}
+use Rattle.model.specs.ListLaws.{packed-is, packed-append, keep-short}
 use Rattle.model.specs.RunLaws.{first-agree}
 use Rattle.model.specs.ListingLaws.{beaten-low}
 
@@ -76,38 +76,29 @@ module _ {n : ℕ} {ends : List ℕ} where
 pub record Packing (beat : ℕ → ℕ → Bool) (rows counts order₀ : List ℕ) (r from m : ℕ) (order : List ℕ) : Type 0 where
   pub at : Turn (length rows) counts r from
   pub few : m ≤ from
-  pub long : length order ≡ length order₀
-  pub front : Front m order (unbeatenRuns beat (ownRows rows counts) r)
+  pub packed : Packed m order₀ order (unbeatenRuns beat (ownRows rows counts) r)
 
 module _ {beat : ℕ → ℕ → Bool} {rows counts order₀ : List ℕ} where
   pub packing : start counts (length counts) ≡ length rows → Packing beat rows counts order₀ 0 0 0 order₀
   unfolding unbeatenRuns
-  packing e = record { at = turn e; few = zero-le; long = refl; front = record { few = zero-le; are = refl } }
+  packing e = record { at = turn e; few = zero-le; packed = record { many = refl; room = zero-le; all = refl } }
 
   module _ {r from m : ℕ} {order : List ℕ} (s : Packing beat rows counts order₀ r from m order) where
-    pub packing-next : {n : ℕ} {lent : List ℕ} (rest : List ℕ) → r < length counts → length (take m order ++ (lent ++ rest)) ≡ length order
-        → Front n lent (unbeatenBy beat (take (from + column counts r - from) (drop from rows)) (take (from + column counts r - from) (drop from rows)))
-        → Packing beat rows counts order₀ (r + 1) (from + column counts r) (m + n) (take m order ++ (lent ++ rest))
+    pub packing-next : {n : ℕ} {lent : List ℕ} (k : ℕ) → r < length counts
+        → Packed n (take k (drop m order)) lent (unbeatenBy beat (take (from + column counts r - from) (drop from rows)) (take (from + column counts r - from) (drop from rows)))
+        → Packing beat rows counts order₀ (r + 1) (from + column counts r) (m + n) (take m order ++ (lent ++ drop k (drop m order)))
     unfolding unbeatenRuns
-    packing-next {n} {lent} rest l e f =
-        let own = turn-own (s .at) rows in
-        let g : Front n lent (unbeatenBy beat (ownRows rows counts r) (ownRows rows counts r)) = front-is f (ap (λ (part : List ℕ). unbeatenBy beat part part) own) in
+    packing-next {n} {lent} k l p =
+        let own = ownRows rows counts r in
+        let q : Packed n (take k (drop m order)) lent (unbeatenBy beat own own) = packed-is p (ap (λ (part : List ℕ). unbeatenBy beat part part) (turn-own (s .at) rows)) in
         record {
           at = turn-next (s .at) l;
-          few = omega (
-            arith,
-            s .few,
-            front-long g,
-            ap length (g .are),
-            keep-short (λ q. not (some (λ p. beat p q) (ownRows rows counts r))) (ownRows rows counts r),
-            length-take (column counts r) (drop (start counts r) rows),
-          );
-          long = e ∙ s .long;
-          front = rw add-one (front-append (s .front) (front-wider rest g));
+          few = omega (arith, s .few, q .many, keep-short (λ q. not (some (λ p. beat p q) own)) own, length-take (column counts r) (drop (start counts r) rows));
+          packed = rw add-one (packed-append k (s .packed) q);
         }
 
-    pub packing-end : length counts ≤ r → Front m order (unbeatenRuns beat (ownRows rows counts) (length counts))
-    packing-end l = let e : r ≡ length counts = omega (arith, s .at .within) in rw e at (s .front)
+    pub packing-end : length counts ≤ r → Packed m order₀ order (unbeatenRuns beat (ownRows rows counts) (length counts))
+    packing-end l = let e : r ≡ length counts = omega (arith, s .at .within) in rw e at (s .packed)
 
 -- ---- part of a column
 

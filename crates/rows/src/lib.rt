@@ -7,7 +7,7 @@ ghost use lib.Dec.{eqb};
 ghost use Rattle.model.specs.Rows.{keep, span, column, greatest, keepLeast};
 ghost use Rattle.model.specs.Decision.{none};
 ghost use Rattle.model.specs.Contest.{leastOr};
-ghost use Rattle.model.specs.Lent.{was, is, col, Inside, Front};
+ghost use Rattle.model.specs.Lent.{was, is, col, Inside, Packed};
 ghost use Rattle.model.specs.Columns.{mostRows, pastKeys};
 ghost use Rattle.model.specs.Listing.{gathered};
 
@@ -97,7 +97,7 @@ pub fn greatest(key: &[u32], rows: &[u16]) -> u32
 // Of the listed rows, those whose key is `value`: packed into the front of the list, so many.
 pub fn keep_equal(key: &[u32], rows: &mut [u16], value: u32) -> usize
     requires { ⌜ Inside (length (now key)) (now rows) ⌝ }
-    ensures { λ n. ⌜ Front n (is rows) (keep (λ q. eqb (col key q) value) (was rows)) ⌝ }
+    ensures { λ n. ⌜ Packed n (was rows) (is rows) (keep (λ q. eqb (col key q) value) (was rows)) ⌝ }
 {
     let mut n: usize = 0;
     for i in 0..rows.len() {
@@ -114,7 +114,7 @@ pub fn keep_equal(key: &[u32], rows: &mut [u16], value: u32) -> usize
 // Of the listed rows, those whose key is the least.
 pub fn keep_least(key: &[u32], rows: &mut [u16]) -> usize
     requires { ⌜ Inside (length (now key)) (now rows) ⌝ }
-    ensures { λ n. ⌜ Front n (is rows) (keepLeast (col key) (was rows)) ⌝ }
+    ensures { λ n. ⌜ Packed n (was rows) (is rows) (keepLeast (col key) (was rows)) ⌝ }
 {
     let low = least(key, rows);
     keep_equal(key, rows, low)

@@ -10,7 +10,7 @@ use borrow.Author.Needs.{needs}
 use Rattle.model.specs.Rows.{column, span}
 use Rattle.model.specs.Decision.{none}
 use Rattle.model.specs.RowLaws.{length-span}
-use Rattle.model.specs.ListLaws.{Pack, pack, pack-off, pack-on, pack-end, span-at}
+use Rattle.model.specs.ListLaws.{Pack, pack, pack-off, pack-on, pack-end, packed-front, span-at}
 use Rattle.choice.proofs.available.Statement.{statement}
 use Rattle.choice.proofs.available.Tie as tie
 
@@ -61,7 +61,7 @@ loop-again-2 c =
 returns : tie.Need-returns Inv-loop μ-loop
 returns c =
     let start : tie.Start Inv-loop μ-loop = search needs in
-    pack-end (c .before .loop .inv) (omega (arith, length-span 0 (length (now (start .args .router))), c .loop-test .left))
+    packed-front (pack-end (c .before .loop .inv) (omega (arith, length-span 0 (length (now (start .args .router))), c .loop-test .left)))
 
 pub available-spec : {M : Type 1} → statement M
 available-spec =

@@ -13,7 +13,7 @@ use Rattle.model.specs.Stability.{available}
 use Rattle.model.specs.StabilityLaws.{available-all}
 use Rattle.model.specs.Lent.{Inside, Front}
 use Rattle.model.specs.Columns.{columns, lentMesh}
-use Rattle.model.specs.ListLaws.{inside-part, inside-step, inside-span, inside-long, front-long, front-inside, front-of, front-next}
+use Rattle.model.specs.ListLaws.{inside-part, inside-step, inside-span, inside-long, front-long, front-inside, front-of, front-next, packed-front}
 use Rattle.choice.proofs.choose_in.Statement.{statement}
 use Rattle.choice.proofs.choose_in.Tie as tie
 
@@ -66,11 +66,11 @@ abbrev near : tie.After-nearest → List ℕ
 near c = let o = own-of c in c .nearest .last .1 .1 .1 .1 .1 .1 .1 .0 ++ drop (o .own-if-any .result) (own o)
 
 preferred-front : (c : tie.After-preferred) → let s = start-of (available-of c) in Front (c .preferred .result) (kept c) (preferred (mesh s) (offers s))
-preferred-front c = let a = available-of c in front-next (preferred (mesh (start-of a))) (a .available .ensures) (c .preferred .ensures)
+preferred-front c = let a = available-of c in front-next (preferred (mesh (start-of a))) (a .available .ensures) (packed-front (c .preferred .ensures))
 
 unbeaten-front : (c : tie.After-unbeaten) → let s = start-of (available-of (preferred-of c)) in
     Front (c .unbeaten .result) (c .unbeaten .last .1 .1 .1 .0) (unbeaten (mesh s) (preferred (mesh s) (offers s)))
-unbeaten-front c = let p = preferred-of c in front-of (unbeaten (mesh (start-of (available-of p)))) (preferred-front p) (c .unbeaten .ensures)
+unbeaten-front c = let p = preferred-of c in front-of (unbeaten (mesh (start-of (available-of p)))) (preferred-front p) (packed-front (c .unbeaten .ensures))
 
 own-front : (c : tie.After-own-if-any) → let s = start-of (available-of (preferred-of (unbeaten-of c))) in
     Front (c .own-if-any .result) (own c) (ownIfAny (mesh s) (s .args .r) (unbeaten (mesh s) (preferred (mesh s) (offers s))))

@@ -8,7 +8,7 @@ use borrow.Author.Needs.{needs}
 use Rattle.model.specs.Rows.{column, keepLeast}
 use Rattle.model.specs.Columns.{distanceIn}
 use Rattle.model.specs.LeastLaws.{picks-least}
-use Rattle.model.specs.ListLaws.{inside-step, inside-long, front-long, front-inside, front-next}
+use Rattle.model.specs.ListLaws.{inside-step, inside-long, front-long, front-inside, front-next, packed-front}
 use Rattle.choice.proofs.nearest.Statement.{statement}
 use Rattle.choice.proofs.nearest.Tie as tie
 
@@ -67,7 +67,7 @@ returns c =
     let low : tie.After-lowest-id = search needs in
     let last : tie.After-lowest-peer = search needs in
     front-next (keepLeast (column (now (start .args .peer)))) (front-next (keepLeast (tie-id start)) (near .lowest-distance .ensures) (low .lowest-id .ensures))
-    (last .lowest-peer .ensures)
+    (packed-front (last .lowest-peer .ensures))
 
 pub nearest-spec : {M : Type 1} → statement M
 nearest-spec =

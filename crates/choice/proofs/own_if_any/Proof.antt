@@ -2,7 +2,7 @@
 use mathlib.Core.Path.{sym, _∙_}
 use denote.Ref.{now}
 use borrow.Author.Needs.{needs}
-use Rattle.model.specs.ListLaws.{front-all}
+use Rattle.model.specs.ListLaws.{front-all, packed-front}
 use Rattle.choice.proofs.own_if_any.Statement.{statement}
 use Rattle.choice.proofs.own_if_any.Tie as tie
 
@@ -11,7 +11,7 @@ returns c =
     let any : tie.After-any-own = search needs in
     let branch : tie.Then1 = search needs in
     let kept : tie.After-keep-equal = search needs in
-    rw (sym (any .any-own .ensures) ∙ branch .if1 .taken) (kept .keep-equal .ensures)
+    rw (sym (any .any-own .ensures) ∙ branch .if1 .taken) (packed-front (kept .keep-equal .ensures))
 
 returns-2 : tie.Need-returns-2
 returns-2 c =

@@ -4,12 +4,12 @@ use lib.ListN.{length}
 use lib.Dec.{eqb}
 use borrow.Author.Needs.{needs}
 use Rattle.model.specs.Rows.{column}
-use Rattle.model.specs.ListLaws.{Squeeze, squeeze, squeeze-here, squeeze-off, squeeze-on, squeeze-end}
+use Rattle.model.specs.ListLaws.{Pack, pack-end, squeeze, squeeze-here, squeeze-off, squeeze-on}
 use Rattle.rows.proofs.keep_equal.Statement.{statement}
 use Rattle.rows.proofs.keep_equal.Tie as tie
 
 abbrev Inv-loop : tie.InvT-loop
-Inv-loop key rows₀ value n₀ i₀ i-end rows n i = Squeeze (λ q. eqb (column key q) value) rows₀ i n rows
+Inv-loop key rows₀ value n₀ i₀ i-end rows n i = Pack (λ q. eqb (column key q) value) rows₀ rows₀ i n rows
 
 abbrev μ-loop : tie.MeasureT-loop
 μ-loop key rows₀ value n₀ i₀ i-end rows n i = length rows₀ - i
@@ -23,4 +23,4 @@ has-key-requires c κs =
 
 pub keep-equal-spec : {M : Type 1} → statement M
 keep-equal-spec =
-    tie.close (tie.spec Inv-loop μ-loop (λ c. search squeeze) (λ c. search needs) (λ c. search needs) has-key-requires (λ c. search needs) (λ c. search needs) (λ c. search needs) (λ c. search needs) (λ c. search needs) (λ c. search squeeze-on) (λ c. search needs) (λ c. search needs) (λ c. search squeeze-off) (λ c. search needs) (λ c. search squeeze-end))
+    tie.close (tie.spec Inv-loop μ-loop (λ c. search squeeze) (λ c. search needs) (λ c. search needs) has-key-requires (λ c. search needs) (λ c. search needs) (λ c. search needs) (λ c. search needs) (λ c. search needs) (λ c. search squeeze-on) (λ c. search needs) (λ c. search needs) (λ c. search squeeze-off) (λ c. search needs) (λ c. search pack-end))

@@ -12,7 +12,7 @@ use Rattle.model.specs.Rows.{column}
 use Rattle.model.specs.Lent.{Front}
 use Rattle.model.specs.Columns.{Columns, columns, Fits, mostRouters, mostRows, pastKeys}
 use Rattle.model.specs.Listing.{contendersIn, countsIn, gathered, groupsIn, restIn, Ready}
-use Rattle.model.specs.ListLaws.{front-is, front-wider, front-long, front-inside}
+use Rattle.model.specs.ListLaws.{front-is, front-wider, front-long, front-inside, packed-front}
 use Rattle.model.specs.ListingLaws.{ready, contenders-few, contenders-inside, rest-early, rest-late}
 use Rattle.stand.proofs.own_rows.Statement.{statement}
 use Rattle.stand.proofs.own_rows.Tie as tie
@@ -54,7 +54,7 @@ module _ (c : tie.After-contenders) where
   order rest = c .contenders .last .1 .1 .1 .1 .1 .1 .1 .1 .1 .1 .0 ++ rest
 
   front : (rest : List ℕ) → Front m (order rest) (contendersIn routers t)
-  front rest = front-wider rest (front-is (c .contenders .ensures) (ap (λ (n : ℕ). contendersIn n t) counts-long))
+  front rest = front-wider rest (front-is (packed-front (c .contenders .ensures .order-has)) (ap (λ (n : ℕ). contendersIn n t) counts-long))
 
   few : m ≤ mostRows
   few = omega (arith, ap length (front [] .are), front-long (front []), contenders-few routers t fits)
