@@ -1,11 +1,11 @@
 -- Laws of columns: a column that code stores, which is 0 past its end, stands for the function that it was computed by.
-use Prim.Native.Nat.{ℕ, zero, suc, _+_, _<_}
+use Prim.Native.Nat.{ℕ, zero, suc, _+_, _≤_, _<_}
 use native.Mathlib.Nat.{not-suc-le-zero}
 use native.Mathlib.Omega.{arith}
 use mathlib.Core.Path.{_≡_, refl, sym, ap, _∙_}
 use mathlib.Core.List.{List, [], _∷_, _++_}
-use lib.ListN.{length, getD, set}
-use lib.Seq.{sets, ext-getD}
+use lib.ListN.{length, getD, set, drop}
+use lib.Seq.{sets, sets-eq, ext-getD}
 use Rattle.model.specs.Rows.{table, column}
 use Rattle.model.specs.RowLaws.{table-at, table-length}
 
@@ -23,3 +23,7 @@ column-is xs f h = ext-getD 0 xs (table (length xs) f) (sym (table-length (lengt
 pub sets-append : {A : Type 0} (l : List A) (i : ℕ) (xs ys : List A) → sets (sets l i xs) (i + length xs) ys ≡ sets l i (xs ++ ys)
 sets-append l i [] ys = ap (λ (k : ℕ). sets l k ys) (omega arith)
 sets-append l i (x ∷ xs) ys = ap (λ (k : ℕ). sets (sets (set l i x) (suc i) xs) k ys) (omega arith) ∙ sets-append (set l i x) (suc i) xs ys
+
+-- what is stored from the first entry on stands ahead of the entries behind it
+pub sets-front : (l xs : List ℕ) → length xs ≤ length l → sets l 0 xs ≡ xs ++ drop (length xs) l
+sets-front l xs h = let e : 0 + length xs ≡ length xs = omega arith in sets-eq xs l 0 (omega arith) ∙ ap (λ (k : ℕ). xs ++ drop k l) e

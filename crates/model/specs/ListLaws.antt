@@ -1,6 +1,6 @@
--- Laws of rows kept as a list: rows inside columns, the front of a list, and the loops along one. Such a loop goes from place 0 up,
--- and its invariant speaks of the rows that are left, `drop i rows`. So a turn takes one row off the front, as the definitions of
--- `Rows` do.
+-- Laws of rows kept as a list: rows inside columns, the front of a list, rows packed into it, and the loops along one. Such a loop goes
+-- from place 0 up, and its invariant speaks of the rows that are left, `drop i rows`. So a turn takes one row off the front, as the
+-- definitions of `Rows` do.
 use Prim.Native.Nat.{ℕ, zero, suc, _+_, _-_, _≤_, _<_, min, max, zero-le}
 use native.Mathlib.Nat.{le-refl, not-suc-le-zero}
 use native.Mathlib.Numerals.{add-one}
@@ -20,7 +20,7 @@ use Rattle.model.specs.Listing.{firstPlace}
 use Rattle.model.specs.RowLaws.{by, In, here, there, nowhere, in-cases, Agree, in-span, table-at, count-length, count-le, count-all}
 use Rattle.model.specs.LeastLaws.{Picks, leastOr-past, leastOr-lower, keepLeast-agree}
 use Rattle.model.specs.LoopLaws.{Stored, stored-end}
-use Rattle.model.specs.ColumnLaws.{sets-append}
+use Rattle.model.specs.ColumnLaws.{sets-append, sets-front}
 
 -- the rows from place i on are the row there and those after it
 drop-next : (rows : List ℕ) (i : ℕ) → i < length rows → drop i rows ≡ column rows i ∷ drop (i + 1) rows
@@ -107,9 +107,7 @@ front-wider {n} {list} rest f = record { few = omega (arith, f .few, length-appe
 
 -- ---- rows packed into the front of a list
 
-sets-front : (list rows : List ℕ) → length rows ≤ length list → sets list 0 rows ≡ rows ++ drop (length rows) list
-sets-front list rows l = let e : 0 + length rows ≡ length rows = omega arith in sets-eq rows list 0 (omega arith) ∙ ap (λ (k : ℕ). rows ++ drop k list) e
-
+-- rows stored into the left part of a list, and into what is left of one behind n
 sets-left : (xs ys : List ℕ) (i : ℕ) (rows : List ℕ) → i + length rows ≤ length xs → sets (xs ++ ys) i rows ≡ sets xs i rows ++ ys
 sets-left xs ys i [] l = refl
 sets-left xs ys i (q ∷ rows) l =

@@ -6,10 +6,11 @@ use mathlib.Core.Path.{_≡_, refl, sym, ap, _∙_, subst, subst₂}
 use mathlib.Core.Bool.{Bool, true, false, _||_, false≢true}
 use mathlib.Core.List.{List, [], _∷_, _++_, map, append-nil, append-assoc}
 use lib.ListN.{length, getD, take, drop, take-append-drop, List·getD-append}
-use lib.Seq.{sets, sets-eq, length-sets, drop-append-seam, ext-getD, getD-drop, getD-take}
+use lib.Seq.{sets, length-sets, drop-append-seam, ext-getD, getD-drop, getD-take}
 use lib.ListN.{length-take, length-drop}
 use Rattle.model.specs.Rows.{some, span, table, column}
 use Rattle.model.specs.RowLaws.{table-length, table-at, table-same, by, table-snoc}
+use Rattle.model.specs.ColumnLaws.{sets-front}
 use Rattle.snapshot.specs.Format.{Each, latest}
 use Rattle.snapshot.specs.ChecksLaws.{latest-snoc}
 use Rattle.tables.specs.Judging.{Below}
@@ -118,13 +119,9 @@ module _ (test : ℕ → Bool) (f : ℕ → ℕ) where
 
 -- ---- a list that stands at the front of another
 
-module _ (xs vs : List ℕ) (long : length vs ≤ length xs) where
-  pub sets-front : sets xs 0 vs ≡ vs ++ drop (length vs) xs
-  sets-front = sets-eq vs xs 0 (omega arith) ∙ ap (λ (k : ℕ). vs ++ drop k xs) (let z : 0 + length vs ≡ length vs = omega arith in z)
-
-  -- where to store it would change nothing, it is there
-  pub stands : sets xs 0 vs ≡ xs → (k : ℕ) → k < length vs → getD vs k 0 ≡ column xs k
-  stands e k l = sym (List·getD-append vs (drop (length vs) xs) 0 k l) ∙ ap (λ (l : List ℕ). getD l k 0) (sym sets-front ∙ e)
+-- where to store it would change nothing, it is there
+pub stands : (xs vs : List ℕ) → length vs ≤ length xs → sets xs 0 vs ≡ xs → (k : ℕ) → k < length vs → getD vs k 0 ≡ column xs k
+stands xs vs long e k l = sym (List·getD-append vs (drop (length vs) xs) 0 k l) ∙ ap (λ (l : List ℕ). getD l k 0) (sym (sets-front xs vs long) ∙ e)
 
 -- to store it twice is to store it once
 pub sets-twice : (xs vs : List ℕ) → length vs ≤ length xs → sets (sets xs 0 vs) 0 vs ≡ sets xs 0 vs

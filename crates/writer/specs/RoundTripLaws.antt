@@ -11,6 +11,7 @@ use lib.Pow.{areBytes}
 use mir.Facts.{T-not}
 use Rattle.refusal.specs.Numbers.{numberOf}
 use Rattle.refusal.specs.NumbersLaws.{number-tells, number-range}
+use Rattle.model.specs.ColumnLaws.{sets-front}
 use Rattle.snapshot.specs.declared.Counts.{Counts}
 use Rattle.snapshot.specs.Ranges.{anyOf, none}
 use Rattle.snapshot.specs.Format.{Snapshot, encode, Valid}
@@ -18,7 +19,6 @@ use Rattle.snapshot.specs.Reading.{reading, accepted}
 use Rattle.snapshot.specs.Tables.{Tables, short, filled, countsOf, Held}
 use Rattle.snapshot.specs.Theorems.{accepts, written-read}
 use Rattle.tables.specs.Judging.{snapshotOf}
-use Rattle.tables.specs.ListsLaws.{sets-front}
 use Rattle.tables.specs.HeldLaws.{held-is}
 use Rattle.tables.specs.FilledLaws.{filled-held, filled-room}
 use Rattle.snapshot.specs.TablesLaws.{has-room, room-enough}
