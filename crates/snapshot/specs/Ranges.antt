@@ -1,5 +1,5 @@
--- The ranges of document 01, each in one definition: a list of tests, any of which puts a value outside its range. Reading, the
--- judging of tables and edits all go by these.
+-- The ranges of document 01, each in one definition: a list of tests, any of which puts a value outside its range. Reading and
+-- the judging of tables go by these.
 use Prim.Native.Nat.{ℕ, _-_, _%_, _^_}
 use mathlib.Core.Bool.{Bool, false, not, _&&_, _||_}
 use mathlib.Core.List.{List, [], _∷_}
