@@ -8,11 +8,10 @@ use lib.Dec.{ltb, eqb}
 use Rattle.refusal.specs.declared.Refusal.the-variants.{Cut, Kind, Place, Full, Field, Order, Tail}
 use Rattle.snapshot.specs.declared.Route.{Route}
 use Rattle.model.specs.Decision as model
-use Rattle.snapshot.specs.Limits.{mostPrefixes, mostInPrefix, mostRoutes}
 use Rattle.snapshot.specs.Ranges.{none, prefixTests, routeTests, rises, risesRoute}
 use Rattle.snapshot.specs.Records.{Form, forms, ofKind, known, sum, size, prefixForm, routeForm, valuesAt}
 use Rattle.snapshot.specs.Format.{Pair, Snapshot, routesIn, latest, Check, _else_}
-use Rattle.snapshot.specs.Reading.{recordChecks, openRoutes, routeOf}
+use Rattle.snapshot.specs.Reading.{recordChecks, openRoutes, routeOf, prefixRoom, routeRoom}
 use Rattle.cursor.specs.declared.Finding.{Finding}
 use Rattle.cursor.specs.declared.Finding.the-variants.{Clear, Fault}
 use Rattle.cursor.specs.declared.Body.{Body}
@@ -82,25 +81,13 @@ routeFaults k r =
     ∷ (not (lateBehind (k .inside) (k .router) (k .peer) (r .router) (r .peer)) else Order)
     ∷ []
 
--- FULL: a 65th prefix
-abbrev pub prefixRoom : Sofar → List Check
-prefixRoom k = (ltb (k .prefixes) mostPrefixes else Full) ∷ []
-
 -- the checks of a prefix record, by what is known of those before it
 unfoldable pub prefixNext : Sofar → List ℕ → List Check
-prefixNext k = recordChecks prefixForm (prefixRoom k) (λ v. prefixFaults k (getD v 0 0) (getD v 1 0))
-
--- PLACE: a route stands behind a prefix. FULL: a prefix's 257th route, or a 1,025th route in all
-abbrev pub routeRoom : Sofar → List Check
-routeRoom k =
-    (not (eqb (k .prefixes) 0) else Place)
-    ∷ (ltb (k .inside) mostInPrefix else Full)
-    ∷ (ltb (k .routes) mostRoutes else Full)
-    ∷ []
+prefixNext k = recordChecks prefixForm (prefixRoom (k .prefixes)) (λ v. prefixFaults k (getD v 0 0) (getD v 1 0))
 
 -- the checks of a route record, by what is known of those before it
 unfoldable pub routeNext : Sofar → List ℕ → List Check
-routeNext k = recordChecks routeForm (routeRoom k) (λ v. routeFaults k (routeOf v))
+routeNext k = recordChecks routeForm (routeRoom (k .prefixes) (k .inside) (k .routes)) (λ v. routeFaults k (routeOf v))
 
 -- the prefix of the record at a place
 abbrev pub networkAt : List ℕ → ℕ → Network

@@ -18,14 +18,14 @@ use Rattle.snapshot.specs.Limits.{mostPrefixes, mostInPrefix, mostRoutes}
 use Rattle.snapshot.specs.Ranges.{none, prefixTests, routeTests}
 use Rattle.snapshot.specs.Records.{Form, forms, ofKind, sum, size, known, prefixForm, routeForm, valuesAt}
 use Rattle.snapshot.specs.Format.{Snapshot, Check, _else_, judged, Holds}
-use Rattle.snapshot.specs.Reading.{recordChecks, prefixRecord, routeExtra, routeRecord, routeOf}
+use Rattle.snapshot.specs.Reading.{recordChecks, prefixRoom, prefixRecord, routeRoom, routeExtra, routeRecord, routeOf}
 use Rattle.snapshot.specs.ChecksLaws.{judged-append, judged-front}
 use Rattle.snapshot.specs.PlaceLaws.{record-at}
 use Rattle.cursor.specs.declared.Finding.{Finding}
 use Rattle.cursor.specs.declared.Finding.the-variants.{Clear, Fault}
 use Rattle.cursor.specs.declared.Body.the-variants.{Bytes, Refused}
 use Rattle.cursor.specs.declared.Sofar.{Sofar}
-use Rattle.cursor.specs.Steps.{finding, bodyOf, bodyLength, openingChecks, prefixRoom, prefixNext, routeRoom, routeNext, Tells}
+use Rattle.cursor.specs.Steps.{finding, bodyOf, bodyLength, openingChecks, prefixNext, routeNext, Tells}
 
 -- ---- an id among those given before
 
@@ -205,7 +205,7 @@ ltb-leb a b = go (decLe b a)
     go (no h) = lt-ltb a b (omega arith) ∙ ap not (sym (lt-leb b a (omega arith)))
 
 module _ {A : Type 0} (k : Sofar) (stop : Refusal → A) (go : Unit {0} → A) where
-  pub prefix-room : judged (prefixRoom k) stop go ≡ judged (extraChecks false (leb mostPrefixes (k .prefixes))) stop go
+  pub prefix-room : judged (prefixRoom (k .prefixes)) stop go ≡ judged (extraChecks false (leb mostPrefixes (k .prefixes))) stop go
   unfolding judged
   prefix-room = ap (λ (b : Bool). judged ((b else Full) ∷ []) stop go) (ltb-leb (k .prefixes) mostPrefixes)
 
@@ -215,7 +215,7 @@ module _ {A : Type 0} (k : Sofar) (stop : Refusal → A) (go : Unit {0} → A) w
   join false true b = refl
   join false false b = refl
 
-  pub route-room : judged (routeRoom k) stop go ≡ judged (extraChecks (eqb (k .prefixes) 0) (leb mostInPrefix (k .inside) || leb mostRoutes (k .routes))) stop go
+  pub route-room : judged (routeRoom (k .prefixes) (k .inside) (k .routes)) stop go ≡ judged (extraChecks (eqb (k .prefixes) 0) (leb mostInPrefix (k .inside) || leb mostRoutes (k .routes))) stop go
   route-room =
       ap₂ (λ (a b : Bool). judged ((not (eqb (k .prefixes) 0) else Place) ∷ (a else Full) ∷ (b else Full) ∷ []) stop go)
       (ltb-leb (k .inside) mostInPrefix) (ltb-leb (k .routes) mostRoutes)
@@ -226,11 +226,11 @@ module _ {s : Snapshot} {k : Sofar} (t : Tells s k) where
   pub prefix-told : (bs : List ℕ) → prefixRecord s bs ≡ prefixNext k bs
   unfolding prefixRecord prefixNext
   prefix-told bs =
-      ap₂ (λ (n : ℕ) (values : List ℕ → List Check). recordChecks prefixForm ((ltb n mostPrefixes else Full) ∷ []) values bs)
+      ap₂ (λ (n : ℕ) (values : List ℕ → List Check). recordChecks prefixForm (prefixRoom n) values bs)
       (sym (t .prefixes))
       (fun-ext (λ v. ap (λ (b : Bool). (none (prefixTests (getD v 0 0) (getD v 1 0)) else Field) ∷ (b else Order) ∷ []) (t .above (getD v 0 0) (getD v 1 0))))
 
-  room-told : routeExtra s ≡ routeRoom k
+  room-told : routeExtra s ≡ routeRoom (k .prefixes) (k .inside) (k .routes)
   room-told = rw (t .prefixes, t .inside, t .routes)
 
   pub route-told : (bs : List ℕ) → routeRecord s bs ≡ routeNext k bs

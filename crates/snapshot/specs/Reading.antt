@@ -78,9 +78,13 @@ routeOf v = record {
   peer = getD v 8 0;
 }
 
--- FULL: a 65th prefix
+-- FULL: a 65th prefix, where so many stand before it
+abbrev pub prefixRoom : ℕ → List Check
+prefixRoom prefixes = (ltb prefixes mostPrefixes else Full) ∷ []
+
+-- the same behind what was read so far
 abbrev pub prefixExtra : Snapshot → List Check
-prefixExtra s = (ltb (length (s .prefixes)) mostPrefixes else Full) ∷ []
+prefixExtra s = prefixRoom (length (s .prefixes))
 
 -- the checks of a prefix record's values
 abbrev pub prefixValues : Snapshot → List ℕ → List Check
@@ -90,13 +94,18 @@ prefixValues s v = prefixChecks (s .prefixes) (getD v 0 0) (getD v 1 0)
 unfoldable pub prefixRecord : Snapshot → List ℕ → List Check
 prefixRecord s = recordChecks prefixForm (prefixExtra s) (prefixValues s)
 
--- PLACE: a route stands behind a prefix. FULL: a prefix's 257th route, or a 1,025th route in all
-abbrev pub routeExtra : Snapshot → List Check
-routeExtra s =
-    (not (eqb (length (s .prefixes)) 0) else Place)
-    ∷ (ltb (length (openRoutes (s .prefixes))) mostInPrefix else Full)
-    ∷ (ltb (routesIn (s .prefixes)) mostRoutes else Full)
+-- PLACE: a route stands behind a prefix. FULL: a prefix's 257th route, or a 1,025th route in all; where there are so many prefixes, routes
+-- of the latest, and routes in all
+abbrev pub routeRoom : ℕ → ℕ → ℕ → List Check
+routeRoom prefixes inside routes =
+    (not (eqb prefixes 0) else Place)
+    ∷ (ltb inside mostInPrefix else Full)
+    ∷ (ltb routes mostRoutes else Full)
     ∷ []
+
+-- the same behind what was read so far
+abbrev pub routeExtra : Snapshot → List Check
+routeExtra s = routeRoom (length (s .prefixes)) (length (openRoutes (s .prefixes))) (routesIn (s .prefixes))
 
 -- the checks of a route record's values
 abbrev pub routeValues : Snapshot → List ℕ → List Check
