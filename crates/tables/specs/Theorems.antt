@@ -1,10 +1,10 @@
 -- What is proved of counts and tables that hold a snapshot: they hold one, its parts stand in their rows, and its prefixes are sound;
--- and that judgements and verdicts determine their answer.
+-- and that a verdict is determined.
 use Prim.Native.Nat.{ℕ, suc, _+_, _≤_, _<_}
 use native.Mathlib.Omega.{arith}
 use mathlib.Core.Path.{_≡_, refl, sym, ap, _∙_, subst, fun-ext}
 use mathlib.Core.Logic.{_⊎_, inl, inr, ⊎-elim}
-use mathlib.Core.Bool.{Bool, true, false, _&&_}
+use mathlib.Core.Bool.{false, _&&_}
 use mathlib.Core.List.{List, [], map, map-map}
 use lib.ListN.{length, getD, take, drop}
 use lib.Dec.{T, eqb, ltb}
@@ -29,7 +29,7 @@ use Rattle.snapshot.specs.ChecksLaws.{routers-few}
 use Rattle.tables.specs.declared.Verdict.{Verdict}
 use Rattle.tables.specs.declared.Verdict.the-variants.{Good, Refused}
 use Rattle.tables.specs.Judging as judging
-use Rattle.tables.specs.Judging.{routeAt, routesAt, prefixAt, cell, Decides, Holding, numbered, Verdicts}
+use Rattle.tables.specs.Judging.{routeAt, routesAt, prefixAt, cell, Holding, numbered, Verdicts}
 use Rattle.tables.specs.ListsLaws.{map-at, as-table, each-below, latest-table, table-none, table-part, table-take}
 use Rattle.tables.specs.HeldLaws.{no-prefix, no-route, n-is, cell-is, held-is}
 use Rattle.tables.specs.PartsLaws.{and-zero, holding-parts}
@@ -39,14 +39,7 @@ use Rattle.tables.specs.JudgeLaws.{off}
 pub held-one : {counts : Counts} {t : Tables} {s u : Snapshot} → Room t → Valid s → Held counts t s → Valid u → Held counts t u → s ≡ u
 held-one room v h w k = held-is room v h ∙ sym (held-is room w k)
 
--- ---- judgements and verdicts
-
--- two answers to one question are one
-pub decides-one : {P : Type 0} (a b : Bool) → Decides P a → Decides P b → a ≡ b
-decides-one true true d e = refl
-decides-one true false d e = absurd (e .no refl (d .yes refl))
-decides-one false true d e = absurd (d .no refl (e .yes refl))
-decides-one false false d e = refl
+-- ---- verdicts
 
 -- a number tells its verdict
 numbered-tells : (v w : Verdict) → numbered v ≡ numbered w → v ≡ w

@@ -271,7 +271,7 @@ fn prefixes_good(
 }
 
 // Whether counts and tables are those of some snapshot.
-pub fn judge(
+fn judge(
     counts: snapshot::Counts,
     ids: &[u32],
     distances: &[u32],
