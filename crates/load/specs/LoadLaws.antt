@@ -6,10 +6,11 @@ use mathlib.Core.Path.{_≡_, sym, ap, ap₂, _∙_, subst, subst₂}
 use mathlib.Core.Bool.{Bool, cond}
 use mathlib.Core.List.{List, [], _∷_, _++_, map}
 use lib.ListN.{length, getD, take, drop, replicate, length-map, length-replicate}
-use lib.Seq.{sets, sets-eq, take-at}
+use lib.Seq.{sets, take-at}
 use borrow.Author.Tests.{le-leb}
 use Rattle.model.specs.Rows.{table}
 use Rattle.model.specs.Decision.{Route}
+use Rattle.model.specs.ColumnLaws.{sets-front}
 use Rattle.model.specs.Columns as decided
 use Rattle.model.specs.Columns.{lentMesh, Placed}
 use Rattle.model.specs.Stability.{Between}
@@ -52,7 +53,7 @@ stands-at n k bs before (q ∷ qs) at (suc p) e good l =
 front-field : (f : Route → ℕ) (rs : List Route) (xs : List ℕ) → length rs ≤ length xs → take (length rs) (sets xs 0 (map f rs)) ≡ map f rs
 front-field f rs xs h =
     let long : length (map f rs) ≡ length rs = length-map rs f in
-    ap (take (length rs)) (sets-eq (map f rs) xs 0 (omega arith)) ∙ take-at (map f rs) (drop (0 + length (map f rs)) xs) (length rs) long
+    ap (take (length rs)) (sets-front xs (map f rs) (omega arith)) ∙ take-at (map f rs) (drop (length (map f rs)) xs) (length rs) long
 
 -- routes that are put at the front stand there
 front-put : (c : Columns) (rs : List Route) → Wide (length rs) c → front (length rs) (putRoutes c 0 rs) ≡ columnsOf rs

@@ -8,7 +8,7 @@ use mathlib.Core.List.{List, _++_, map}
 use lib.ListN.{length, getD, drop, length-map, List·getD-eq-default}
 use lib.Dec.{T, eqb, ltb}
 use borrow.Author.Tests.{ltb-false, eqb-true}
-use lib.Seq.{sets, sets-eq, getD-take}
+use lib.Seq.{sets, getD-take}
 use lib.Count.{ones}
 use Rattle.word.specs.Word.{word, differs, differingIn}
 use Rattle.word.specs.WordLaws.{ones-word}
@@ -30,6 +30,7 @@ use Rattle.model.specs.Columns.{Columns, columns, lentMesh, ForecastRows, Place
 use Rattle.model.specs.MeshLaws.{Alike, sound-alike, between-alike}
 use Rattle.model.specs.NumberLaws.{le-or-lt}
 use Rattle.model.specs.RowLaws.{by, table-length}
+use Rattle.model.specs.ColumnLaws.{sets-front}
 use Rattle.model.specs.Theorems.{forecast, pair-determined, settled-only}
 use Rattle.outlook.specs.declared.Differing.{Differing}
 use Rattle.outlook.specs.declared.Outlook.{Outlook}
@@ -280,9 +281,7 @@ module _ {n n′ : ℕ} (e : n ≡ n′) (ids distances : List ℕ) (c : Columns
       size x = table-length n (λ r. choice M r (available M (table n (atPlace M x)) r))
 
       front : (area x : List ℕ) → length x ≡ n → n ≤ length area → x ++ drop n area ≡ sets area 0 x
-      front area x z fits =
-          let k : n ≡ 0 + length x = omega arith in
-          ap (λ (m : ℕ). x ++ drop m area) k ∙ sym (sets-eq x area 0 (omega arith))
+      front area x z fits = ap (λ (m : ℕ). x ++ drop m area) (sym z) ∙ sym (sets-front area x (omega arith))
 
 -- ---- the whole call
 

@@ -1,13 +1,14 @@
 -- What the code puts on the page is the text of the forecast.
-use Prim.Native.Nat.{ℕ, _+_, _≤_, _<_}
+use Prim.Native.Nat.{ℕ, _≤_, _<_}
 use native.Mathlib.Omega.{arith}
 use mathlib.Core.Path.{_≡_, sym, ap, ap₂, subst, _∙_}
 use mathlib.Core.Logic.{_⊎_, inl, inr}
 use mathlib.Core.List.{List}
 use lib.ListN.{length, getD, take, drop}
-use lib.Seq.{sets, sets-eq, take-at}
+use lib.Seq.{sets, take-at}
 use Rattle.model.specs.Rows.{table}
 use Rattle.model.specs.RowLaws.{first-cases, table-at, table-length}
+use Rattle.model.specs.ColumnLaws.{sets-front}
 use Rattle.model.specs.Decision.{Mesh, none, decided, choice}
 use Rattle.model.specs.DecisionLaws.{in-all, decided-in}
 use Rattle.model.specs.Stability.{available, differing}
@@ -39,7 +40,7 @@ module _ (M : Mesh) (x : List ℕ) where
 
 front : (area rows : List ℕ) {n : ℕ} → length rows ≡ n → n ≤ length area → take n (sets area 0 rows) ≡ rows
 front area rows {n} e l =
-    ap (take n) (sets-eq rows area 0 (omega arith)) ∙ take-at rows (drop (0 + length rows) area) n e
+    ap (take n) (sets-front area rows (omega arith)) ∙ take-at rows (drop (length rows) area) n e
 
 module _ (M : Mesh) {d : Differing} {early₀ early₁ late₀ late₁ : List ℕ} (shown : Shown M d early₀ early₁ late₀ late₁)
     (e : M .routers ≤ length early₀) (l : M .routers ≤ length late₀) where
