@@ -8,23 +8,10 @@ ghost use lib.ListN.{length, set};
 ghost use lib.Seq.{sets};
 ghost use Rattle.model.specs.Rows.{table};
 ghost use Rattle.model.specs.Lent.{was, is};
-ghost use Rattle.snapshot.specs.Limits.{mostRouters, roomDistances, mostPrefixes};
+ghost use Rattle.snapshot.specs.Limits.{mostRouters, roomDistances};
 ghost use Rattle.snapshot.specs.Plain.{routeIs};
-ghost use Rattle.snapshot.specs.Tables.{columns, tables, putRoutes, Wide, Room};
-ghost use Rattle.fill.specs.Fill.{
-  idsIn,
-  distanceIn,
-  entryIn,
-  behindDistances,
-  Spans,
-  isRoute,
-  routesFrom,
-  prefixesFrom,
-  lists,
-  putPrefixes,
-  filledFrom,
-  WideLists,
-};
+ghost use Rattle.snapshot.specs.Tables.{columns, putRoutes, Wide};
+ghost use Rattle.fill.specs.Fill.{idsIn, distanceIn, entryIn, behindDistances, Spans, isRoute};
 use cursor::Network;
 use snapshot::Route;
 
@@ -102,7 +89,7 @@ pub fn fill_distances(input: &[u8], n: usize, distances: &mut [u32])
 }
 
 // Puts a route into a row of the columns.
-fn put_route(
+pub fn put_route(
     row: usize,
     r: Route,
     router: &mut [u32],
@@ -139,56 +126,8 @@ pub fn is_route(input: &[u8], at: usize) -> bool
     (kind == 5) & (at + snapshot::ROUTE_SIZE <= input.len())
 }
 
-// Puts the routes that stand from a place on into the columns, from a row on and while there is room; returns the row behind them.
-pub fn fill_routes(
-    input: &[u8],
-    at: usize,
-    row: usize,
-    room: usize,
-    router: &mut [u32],
-    asn: &mut [u32],
-    preference: &mut [u32],
-    path: &mut [u32],
-    origin: &mut [u32],
-    mark: &mut [u32],
-    med: &mut [u32],
-    nid: &mut [u32],
-    peer: &mut [u32],
-) -> usize
-    requires { ⌜ (at ≤ length (now input)) × (row ≤ room) × Wide room (columns (now router) (now asn) (now preference) (now path) (now origin) (now mark) (now med) (now nid) (now peer)) ⌝ }
-    ensures { λ r. ⌜ (r ≡ row + length (routesFrom (room - row) (was input) at))
-        × (columns (is router) (is asn) (is preference) (is path) (is origin) (is mark) (is med) (is nid) (is peer)
-        ≡ putRoutes (columns (was router) (was asn) (was preference) (was path) (was origin) (was mark) (was med) (was nid) (was peer)) row (routesFrom (room - row) (was input) at)) ⌝ }
-{
-    let mut at = at;
-    let mut row = row;
-    while row < room {
-        if !is_route(input, at) {
-            return row;
-        }
-        let r = cursor::route_at(input, at);
-        let next = row + 1;
-        at += snapshot::ROUTE_SIZE;
-        put_route(
-            row,
-            r,
-            router,
-            asn,
-            preference,
-            path,
-            origin,
-            mark,
-            med,
-            nid,
-            peer,
-        );
-        row = next;
-    }
-    row
-}
-
 // Puts a prefix and its number of routes into a row of the columns.
-fn put_prefix(
+pub fn put_prefix(
     p: usize,
     network: Network,
     inside: u32,
@@ -202,108 +141,4 @@ fn put_prefix(
     address[p] = network.address;
     bits[p] = network.bits;
     routes[p] = inside;
-}
-
-// Puts so many prefixes that stand from a place on, each with its routes, into the front of the columns.
-fn fill_prefixes(
-    input: &[u8],
-    at: usize,
-    prefixes: usize,
-    address: &mut [u32],
-    bits: &mut [u32],
-    routes: &mut [u32],
-    router: &mut [u32],
-    asn: &mut [u32],
-    preference: &mut [u32],
-    path: &mut [u32],
-    origin: &mut [u32],
-    mark: &mut [u32],
-    med: &mut [u32],
-    nid: &mut [u32],
-    peer: &mut [u32],
-)
-    requires { ⌜ (at ≤ length (now input)) × (prefixes ≤ mostPrefixes) × WideLists mostPrefixes (lists (now address) (now bits) (now routes)
-        (columns (now router) (now asn) (now preference) (now path) (now origin) (now mark) (now med) (now nid) (now peer))) ⌝ }
-    ensures { λ _. ⌜ lists (is address) (is bits) (is routes) (columns (is router) (is asn) (is preference) (is path) (is origin) (is mark) (is med) (is nid) (is peer))
-        ≡ putPrefixes (lists (was address) (was bits) (was routes) (columns (was router) (was asn) (was preference) (was path) (was origin) (was mark) (was med) (was nid) (was peer)))
-        (prefixesFrom prefixes (was input) at 0) ⌝ }
-{
-    let mut at = at;
-    let mut row = 0;
-    let mut p = 0;
-    while p < prefixes {
-        if input.len() < at + snapshot::PREFIX_SIZE {
-            return;
-        }
-        let next = p + 1;
-        let network = cursor::network_at(input, at);
-        let end = fill_routes(
-            input,
-            at + snapshot::PREFIX_SIZE,
-            row,
-            snapshot::MOST_ROUTES as usize,
-            router,
-            asn,
-            preference,
-            path,
-            origin,
-            mark,
-            med,
-            nid,
-            peer,
-        );
-        let inside = end - row;
-        at += snapshot::PREFIX_SIZE + snapshot::ROUTE_SIZE * inside;
-        put_prefix(p, network, inside as u32, address, bits, routes);
-        row = end;
-        p = next;
-    }
-}
-
-// Puts a snapshot of n routers and so many prefixes into the tables.
-pub fn fill_tables(
-    input: &[u8],
-    n: usize,
-    prefixes: usize,
-    ids: &mut [u32],
-    distances: &mut [u32],
-    address: &mut [u32],
-    bits: &mut [u32],
-    routes: &mut [u32],
-    router: &mut [u32],
-    asn: &mut [u32],
-    preference: &mut [u32],
-    path: &mut [u32],
-    origin: &mut [u32],
-    mark: &mut [u32],
-    med: &mut [u32],
-    nid: &mut [u32],
-    peer: &mut [u32],
-)
-    requires { ⌜ Spans (now input) n × (prefixes ≤ mostPrefixes) × Room (tables (now ids) (now distances) (now address) (now bits) (now routes)
-        (columns (now router) (now asn) (now preference) (now path) (now origin) (now mark) (now med) (now nid) (now peer))) ⌝ }
-    ensures { λ _. ⌜ tables (is ids) (is distances) (is address) (is bits) (is routes) (columns (is router) (is asn) (is preference) (is path) (is origin) (is mark) (is med) (is nid) (is peer))
-        ≡ filledFrom (was input) n prefixes (tables (was ids) (was distances) (was address) (was bits) (was routes)
-        (columns (was router) (was asn) (was preference) (was path) (was origin) (was mark) (was med) (was nid) (was peer))) ⌝ }
-{
-    let at = behind_distances(n);
-    fill_ids(input, n, ids);
-    fill_distances(input, n, distances);
-    fill_prefixes(
-        input,
-        at,
-        prefixes,
-        address,
-        bits,
-        routes,
-        router,
-        asn,
-        preference,
-        path,
-        origin,
-        mark,
-        med,
-        nid,
-        peer,
-    );
 }

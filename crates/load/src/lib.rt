@@ -65,7 +65,7 @@ fn load(
     let routes = place_of(input, fill::behind_distances(n), prefix) + snapshot::PREFIX_SIZE;
     fill::fill_ids(input, n, ids);
     fill::fill_distances(input, n, distances);
-    fill::fill_routes(
+    pour::fill_routes(
         input,
         routes,
         0,

@@ -33,20 +33,20 @@ pub fn read_snapshot(
         (columns (was router) (was asn) (was preference) (was path) (was origin) (was mark) (was med) (was nid) (was peer)))) ⌝ }
 {
     if snapshot::lacks_room(
-        ids,
-        distances,
-        address,
-        bits,
-        routes,
-        router,
-        asn,
-        preference,
-        path,
-        origin,
-        mark,
-        med,
-        nid,
-        peer,
+        ids.len(),
+        distances.len(),
+        address.len(),
+        bits.len(),
+        routes.len(),
+        router.len(),
+        asn.len(),
+        preference.len(),
+        path.len(),
+        origin.len(),
+        mark.len(),
+        med.len(),
+        nid.len(),
+        peer.len(),
     ) {
         return Read::Refused(Refusal::Room, 0);
     }
@@ -55,7 +55,7 @@ pub fn read_snapshot(
         Read::Accepted(counts) => {
             let n = counts.routers as usize;
             let m = counts.prefixes as usize;
-            fill::fill_tables(
+            pour::fill_tables(
                 input,
                 n,
                 m,

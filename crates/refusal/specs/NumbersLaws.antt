@@ -1,12 +1,13 @@
--- A number tells its refusal: no two refusals share one, and each lies in 1 to 12.
+-- A number tells its refusal: no two refusals share one, and each lies in 1 to 12. So an answer in numbers tells what it is.
 use Prim.Native.Nat.{ℕ, _≤_}
+use native.Mathlib.Omega.{arith}
 use mathlib.Core.Path.{_≡_, refl, sym, ap, _∙_}
 use mathlib.Core.List.{List, [], _∷_}
 use lib.ListN.{getD}
 use lib.Dec.{lit≤}
 use Rattle.refusal.specs.declared.Refusal.{Refusal}
 use Rattle.refusal.specs.declared.Refusal.the-variants.{Room, Cut, Kind, Place, Field, Order, Twin, Full, Count, Tail, Table, NoPrefix}
-use Rattle.refusal.specs.Numbers.{numberOf}
+use Rattle.refusal.specs.Numbers.{numberOf, Said, refuses, gives}
 
 -- the refusals in the order of their numbers, from 1
 abbrev inOrder : List Refusal
@@ -44,3 +45,15 @@ number-range Count = (lit≤ tt, lit≤ tt)
 number-range Tail = (lit≤ tt, lit≤ tt)
 number-range Table = (lit≤ tt, lit≤ tt)
 number-range NoPrefix = (lit≤ tt, lit≤ tt)
+
+-- a refusal is told by its number and its place
+pub refuses-tells : (a b : Refusal) (at place : ℕ) → refuses a at ≡ refuses b place → (a ≡ b) × (at ≡ place)
+refuses-tells a b at place e = (number-tells a b (ap (λ (s : Said). s .number) e), ap (λ (s : Said). getD (s .values) 0 0) e)
+
+-- and nothing that is given is one
+pub gives-refuses : (a : Refusal) (at : ℕ) (values : List ℕ) → gives values ≡ refuses a at → ⊥
+gives-refuses a at values e = let n = ap (λ (s : Said). s .number) e in omega (arith, n, number-range a .0)
+
+-- what is given is told by its values
+pub gives-tells : (u v : List ℕ) → gives u ≡ gives v → u ≡ v
+gives-tells u v e = ap (λ (s : Said). s .values) e

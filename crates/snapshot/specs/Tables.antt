@@ -47,29 +47,32 @@ tables ids distances address bits routes rows =
 abbrev pub prefixTables : List ℕ → List ℕ → List ℕ → Columns → Tables
 prefixTables address bits routes rows = tables [] [] address bits routes rows
 
--- which columns of routes are shorter than their limit
-abbrev pub shortColumns : Columns → List Bool
-shortColumns c =
-    ltb (length (c .router)) mostRoutes
-    ∷ ltb (length (c .asn)) mostRoutes
-    ∷ ltb (length (c .preference)) mostRoutes
-    ∷ ltb (length (c .path)) mostRoutes
-    ∷ ltb (length (c .origin)) mostRoutes
-    ∷ ltb (length (c .mark)) mostRoutes
-    ∷ ltb (length (c .med)) mostRoutes
-    ∷ ltb (length (c .nid)) mostRoutes
-    ∷ ltb (length (c .peer)) mostRoutes
+-- which of fourteen tables are shorter than their limit, by their numbers of entries in the order of a snapshot's tables
+abbrev pub shortLengths : ℕ → ℕ → ℕ → ℕ → ℕ → ℕ → ℕ → ℕ → ℕ → ℕ → ℕ → ℕ → ℕ → ℕ → List Bool
+shortLengths ids distances address bits routes router asn preference path origin mark med nid peer =
+    ltb ids mostRouters
+    ∷ ltb distances roomDistances
+    ∷ ltb address mostPrefixes
+    ∷ ltb bits mostPrefixes
+    ∷ ltb routes mostPrefixes
+    ∷ ltb router mostRoutes
+    ∷ ltb asn mostRoutes
+    ∷ ltb preference mostRoutes
+    ∷ ltb path mostRoutes
+    ∷ ltb origin mostRoutes
+    ∷ ltb mark mostRoutes
+    ∷ ltb med mostRoutes
+    ∷ ltb nid mostRoutes
+    ∷ ltb peer mostRoutes
     ∷ []
 
 -- ROOM: which tables are shorter than their limit
 abbrev pub short : Tables → List Bool
 short t =
-    ltb (length (t .ids)) mostRouters
-    ∷ ltb (length (t .distances)) roomDistances
-    ∷ ltb (length (t .address)) mostPrefixes
-    ∷ ltb (length (t .bits)) mostPrefixes
-    ∷ ltb (length (t .routes)) mostPrefixes
-    ∷ shortColumns (t .rows)
+    let c = t .rows in
+    shortLengths (length (t .ids)) (length (t .distances)) (length (t .address)) (length (t .bits)) (length (t .routes))
+    (length (c .router)) (length (c .asn)) (length (c .preference)) (length (c .path)) (length (c .origin))
+    (length (c .mark)) (length (c .med)) (length (c .nid)) (length (c .peer))
 
 -- each column has room for so many rows
 pub record Wide (n : ℕ) (c : Columns) : Type 0 where

@@ -3,9 +3,8 @@
 ghost use mathlib.Core.Path.{_≡_};
 ghost use mathlib.Core.Bool.{not};
 ghost use Rattle.snapshot.specs.Ranges.{anyOf, countTests, idTests, distanceTests, prefixTests, routeTests, rises};
-ghost use Rattle.model.specs.Lent.{was};
 ghost use Rattle.snapshot.specs.Plain.{routeIs};
-ghost use Rattle.snapshot.specs.Tables.{columns, tables, short};
+ghost use Rattle.snapshot.specs.Tables.{shortLengths};
 
 // The limits, with the names of specs/Limits.antt.
 pub const MOST_ROUTERS: u32 = 64;
@@ -117,37 +116,38 @@ pub fn late(a: u32, b: u32, c: u32, d: u32) -> bool
     !((a < c) | ((a == c) & (b < d)))
 }
 
-// Whether a table is shorter than its limit (ROOM).
+// Whether one of fourteen tables is shorter than its limit (ROOM), by their numbers of entries: lengths are handed on more cheaply
+// than slices.
 pub fn lacks_room(
-    ids: &[u32],
-    distances: &[u32],
-    address: &[u32],
-    bits: &[u32],
-    routes: &[u32],
-    router: &[u32],
-    asn: &[u32],
-    preference: &[u32],
-    path: &[u32],
-    origin: &[u32],
-    mark: &[u32],
-    med: &[u32],
-    nid: &[u32],
-    peer: &[u32],
+    ids: usize,
+    distances: usize,
+    address: usize,
+    bits: usize,
+    routes: usize,
+    router: usize,
+    asn: usize,
+    preference: usize,
+    path: usize,
+    origin: usize,
+    mark: usize,
+    med: usize,
+    nid: usize,
+    peer: usize,
 ) -> bool
-    ensures { λ r. ⌜ r ≡ anyOf (short (tables (was ids) (was distances) (was address) (was bits) (was routes) (columns (was router) (was asn) (was preference) (was path) (was origin) (was mark) (was med) (was nid) (was peer)))) ⌝ }
+    ensures { λ r. ⌜ r ≡ anyOf (shortLengths ids distances address bits routes router asn preference path origin mark med nid peer) ⌝ }
 {
-    (ids.len() < MOST_ROUTERS as usize)
-        | (distances.len() < ROOM_DISTANCES)
-        | (address.len() < MOST_PREFIXES as usize)
-        | (bits.len() < MOST_PREFIXES as usize)
-        | (routes.len() < MOST_PREFIXES as usize)
-        | (router.len() < MOST_ROUTES as usize)
-        | (asn.len() < MOST_ROUTES as usize)
-        | (preference.len() < MOST_ROUTES as usize)
-        | (path.len() < MOST_ROUTES as usize)
-        | (origin.len() < MOST_ROUTES as usize)
-        | (mark.len() < MOST_ROUTES as usize)
-        | (med.len() < MOST_ROUTES as usize)
-        | (nid.len() < MOST_ROUTES as usize)
-        | (peer.len() < MOST_ROUTES as usize)
+    (ids < MOST_ROUTERS as usize)
+        | (distances < ROOM_DISTANCES)
+        | (address < MOST_PREFIXES as usize)
+        | (bits < MOST_PREFIXES as usize)
+        | (routes < MOST_PREFIXES as usize)
+        | (router < MOST_ROUTES as usize)
+        | (asn < MOST_ROUTES as usize)
+        | (preference < MOST_ROUTES as usize)
+        | (path < MOST_ROUTES as usize)
+        | (origin < MOST_ROUTES as usize)
+        | (mark < MOST_ROUTES as usize)
+        | (med < MOST_ROUTES as usize)
+        | (nid < MOST_ROUTES as usize)
+        | (peer < MOST_ROUTES as usize)
 }

@@ -338,20 +338,20 @@ pub fn examine(
     ensures { λ r. ⌜ Verdicts counts (tables (was ids) (was distances) (was address) (was bits) (was routes) (columns (was router) (was asn) (was preference) (was path) (was origin) (was mark) (was med) (was nid) (was peer))) (numbered r) ⌝ }
 {
     if snapshot::lacks_room(
-        ids,
-        distances,
-        address,
-        bits,
-        routes,
-        router,
-        asn,
-        preference,
-        path,
-        origin,
-        mark,
-        med,
-        nid,
-        peer,
+        ids.len(),
+        distances.len(),
+        address.len(),
+        bits.len(),
+        routes.len(),
+        router.len(),
+        asn.len(),
+        preference.len(),
+        path.len(),
+        origin.len(),
+        mark.len(),
+        med.len(),
+        nid.len(),
+        peer.len(),
     ) {
         return Verdict::Refused(refusal::Refusal::Room);
     }

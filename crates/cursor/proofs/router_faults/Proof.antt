@@ -1,9 +1,13 @@
 -- `router_faults` meets its contract. Assumes nothing.
 use borrow.Author.Needs.{needs}
 use denote.Ref.{now}
-use mathlib.Core.Path.{_≡_}
+use mathlib.Core.Path.{_≡_, sym, _∙_}
+use mathlib.Core.Bool.{cond, not, _||_}
+use lib.Dec.{eqb, leb}
 use lib.ListN.{length, take}
 use lib.Seq.{length-take-le}
+use Rattle.refusal.specs.declared.Refusal.the-variants.{Field, Order, Twin}
+use Rattle.cursor.specs.declared.Finding.the-variants.{Clear, Fault}
 use Rattle.cursor.proofs.router_faults.Statement.{statement}
 use Rattle.cursor.proofs.router_faults.Tie as tie
 
@@ -17,6 +21,11 @@ router-faults-spec =
     (λ c κs. search needs)
     (λ c κs. search needs)
     (λ c.
-    let s : tie.Start = search needs in
-    let long : length (take (s .args .given) (now (s .args .ids))) ≡ s .args .given = length-take-le (s .args .given) (now (s .args .ids)) (s .pre) in
-    cc))
+    let t = c .before .before .before in
+    let b = t .before in
+    let s = b .before .before in
+    let a = s .args in
+    let long : a .given ≡ length (take (a .given) (now (a .ids))) = sym (length-take-le (a .given) (now (a .ids)) (s .pre)) in
+    let alone = c .before .before .check .ensures ∙ (λ i. cond (not (t .twin .ensures i)) Clear (Fault Twin)) in
+    let order = c .before .check2 .ensures ∙ (λ i. cond (eqb (a .index) (long i)) (alone i) (Fault Order)) in
+    c .check3 .ensures ∙ (λ i. cond (not (leb (a .routers) (a .index) || b .id-bad .ensures i)) (order i) (Fault Field))))

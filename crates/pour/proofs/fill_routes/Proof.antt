@@ -9,10 +9,10 @@ use lib.ListN.{length}
 use borrow.Author.Tests.{not-true, not-false}
 use Rattle.snapshot.specs.Plain.{routeIs}
 use Rattle.snapshot.specs.Tables.{columns}
 use Rattle.fill.specs.Fill.{isRoute}
 use Rattle.fill.specs.StoresLaws.{Taken, taken-start, taken-alike, taken-stop, taken-next, taken-end, wide-alike, route-whole}
-use Rattle.fill.proofs.fill_routes.Statement.{statement}
-use Rattle.fill.proofs.fill_routes.Tie as tie
+use Rattle.pour.proofs.fill_routes.Statement.{statement}
+use Rattle.pour.proofs.fill_routes.Tie as tie
 
 abbrev Inv-loop : tie.InvT-loop
 Inv-loop input at row room router₀ asn₀ preference₀ path₀ origin₀ mark₀ med₀ nid₀ peer₀ at₀ row₀ router asn preference path origin mark med nid peer at′ row′ =

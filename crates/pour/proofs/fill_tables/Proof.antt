@@ -3,9 +3,9 @@ use borrow.Author.Needs.{needs}
 use native.Mathlib.Omega.{arith}
 use denote.Ref.{now}
 use Rattle.snapshot.specs.Tables.{columns, tables}
 use Rattle.fill.specs.StoresLaws.{tables-filled}
-use Rattle.fill.proofs.fill_tables.Statement.{statement}
-use Rattle.fill.proofs.fill_tables.Tie as tie
+use Rattle.pour.proofs.fill_tables.Statement.{statement}
+use Rattle.pour.proofs.fill_tables.Tie as tie
 
 abbrev start : tie.After-behind-distances → tie.Start
 start b = search needs

@@ -8,10 +8,10 @@ use lib.ListN.{length, set}
 use Rattle.snapshot.specs.Limits.{mostRoutes}
 use Rattle.snapshot.specs.Tables.{columns}
 use Rattle.cursor.specs.declared.Network.{Network}
 use Rattle.fill.specs.Fill.{lists}
 use Rattle.fill.specs.StoresLaws.{Listed, listed-start, listed-alike, listed-stop, listed-room, listed-next, listed-end, wide-lists}
-use Rattle.fill.proofs.fill_prefixes.Statement.{statement}
-use Rattle.fill.proofs.fill_prefixes.Tie as tie
+use Rattle.pour.proofs.fill_prefixes.Statement.{statement}
+use Rattle.pour.proofs.fill_prefixes.Tie as tie
 
 abbrev Inv-loop : tie.InvT-loop
 Inv-loop input at prefixes address₀ bits₀ routes₀ router₀ asn₀ preference₀ path₀ origin₀ mark₀ med₀ nid₀ peer₀ at₀ row₀ p₀ address bits routes router asn preference path origin mark med nid peer at′ row p =
