@@ -1,8 +1,9 @@
 /*
  * Barrierose for C programs: the forecast of one prefix of a snapshot.
  *
- * Link with libhost.a; nothing else is needed beside the C library. The bytes of a snapshot, the eight steps and what
- * early and late mean are described in README.md; here stands what a caller has to know.
+ * Link with libhost.a; nothing else is needed beside the C library. The eight steps, what early and late mean and what
+ * the fields of a snapshot are is described in docs/RULES.md, the bytes of a snapshot in docs/SNAPSHOT.md; here stands
+ * what a caller has to know.
  */
 #ifndef BARRIEROSE_H
 #define BARRIEROSE_H

@@ -277,7 +277,8 @@ fn write_held(
     requires { ⌜ T (none (short (tables (now ids) (now distances) (now address) (now bits) (now routes) (columns (now router) (now asn) (now preference) (now path) (now origin) (now mark) (now med) (now nid) (now peer))))) × Holding counts (tables (now ids) (now distances) (now address) (now bits) (now routes) (columns (now router) (now asn) (now preference) (now path) (now origin) (now mark) (now med) (now nid) (now peer))) ⌝ }
     ensures { λ r. ⌜ Writes counts (tables (was ids) (was distances) (was address) (was bits) (was routes) (columns (was router) (was asn) (was preference) (was path) (was origin) (was mark) (was med) (was nid) (was peer))) (was out) (said r) (is out) ⌝ }
 {
-    if out.len() < size(counts) {
+    let n = size(counts);
+    if out.len() < n {
         return Write::Refused(Refusal::Room, 0);
     }
     let records = record_count(counts);
