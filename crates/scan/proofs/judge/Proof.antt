@@ -1,7 +1,7 @@
 -- `judge` meets its contract: each section hands on to the next what it knows. Assumes nothing.
 use borrow.Author.Needs.{needs}
 use denote.Ref.{now}
-use mathlib.Core.Path.{sym, ap, _∙_}
+use mathlib.Core.Path.{sym, ap}
 use mathlib.Core.Path.{subst}
 use mathlib.Core.List.{[]}
 use lib.ListN.{replicate}
@@ -23,7 +23,7 @@ judge-spec =
     (λ c κs.
     let s : tie.Start = search needs in
     let t : tie.After-count = search needs in
-    count-next (now (s .args .input)) (replicate mostRouters 0) (lit≤ tt) (sym (c .before .c .given .1) ∙ t .count .ensures))
+    count-next (now (s .args .input)) (replicate mostRouters 0) (lit≤ tt) (c .before .c .given .1) (t .count .ensures))
     (λ c. search needs)
     (λ c. search needs)
     (λ c κs.
@@ -41,7 +41,7 @@ judge-spec =
     (λ c.
     let s : tie.Start = search needs in
     let t : tie.After-count = search needs in
-    sym (ap told (count-stop (now (s .args .input)) (sym (c .before .r .given .1) ∙ t .count .ensures))))
+    sym (ap told (count-stop (now (s .args .input)) (c .before .r .given .1) (t .count .ensures))))
     (λ c.
     let s : tie.Start = search needs in
     let n : tie.After-c = search needs in
