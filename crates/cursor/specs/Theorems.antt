@@ -1,9 +1,7 @@
 -- The promises of the cursor's methods determine their answers: number and values tell the answer, so two answers with the same ones are one.
-use Prim.Native.Nat.{ℕ}
 use mathlib.Core.Path.{_≡_, refl, sym, ap}
-use lib.ListN.{getD}
 use Rattle.refusal.specs.Numbers.{Said}
-use Rattle.refusal.specs.NumbersLaws.{same-refusal, gives-refuses}
+use Rattle.refusal.specs.NumbersLaws.{value, same-refusal, gives-refuses}
 use Rattle.cursor.specs.declared.Cursor.{Cursor}
 use Rattle.cursor.specs.declared.Step.{Step}
 use Rattle.cursor.specs.declared.Step.the-variants as step
@@ -14,10 +12,6 @@ use Rattle.cursor.specs.declared.RouteStep.the-variants as routeStep
 use Rattle.cursor.specs.declared.EndStep.{EndStep}
 use Rattle.cursor.specs.declared.EndStep.the-variants as endStep
 use Rattle.cursor.specs.Steps.{stepSaid, prefixSaid, routeSaid, endSaid}
-
--- the k-th value of an answer
-abbrev value : Said → ℕ → ℕ
-value s k = getD (s .values) k 0
 
 -- the cursor of a record that was taken
 abbrev next : Said → Cursor

@@ -46,9 +46,13 @@ number-range Tail = (lit≤ tt, lit≤ tt)
 number-range Table = (lit≤ tt, lit≤ tt)
 number-range NoPrefix = (lit≤ tt, lit≤ tt)
 
+-- the k-th value of an answer
+abbrev pub value : Said → ℕ → ℕ
+value s k = getD (s .values) k 0
+
 -- a refusal is told by its number and its place
 pub refuses-tells : (a b : Refusal) (at place : ℕ) → refuses a at ≡ refuses b place → (a ≡ b) × (at ≡ place)
-refuses-tells a b at place e = (number-tells a b (ap (λ (s : Said). s .number) e), ap (λ (s : Said). getD (s .values) 0 0) e)
+refuses-tells a b at place e = (number-tells a b (ap (λ (s : Said). s .number) e), ap (λ (s : Said). value s 0) e)
 
 -- so whatever is made of them is the same
 pub same-refusal : {A : Type 0} (make : Refusal → ℕ → A) (a b : Refusal) (at place : ℕ) → refuses a at ≡ refuses b place → make a at ≡ make b place

@@ -40,9 +40,22 @@ use Rattle.cursor.specs.declared.EndStep.the-variants as endStep
 use Rattle.cursor.specs.Steps.{begin, after, due, prefixNext, routeNext, networkAt, routeAt, took, stepSaid, prefixSaid, routeSaid, endSaid, judgedAt, ending, lateBehind, Tells}
 use Rattle.cursor.specs.StepsLaws.{prefix-told, route-told}
 use Rattle.cursor.specs.Theorems.{step-tells, prefix-tells, route-tells, end-tells}
+use Rattle.scan.specs.declared.Read.{Read}
 use Rattle.scan.specs.declared.Read.the-variants as read
-use Rattle.scan.specs.Scan.{told, answered, Routers, Distances, Rows, Row, Items, nothing, morePrefix, moreRoute}
+use Rattle.scan.specs.Theorems.{said-tells}
+use Rattle.scan.specs.Scan.{said, saidOf, told, answered, Routers, Distances, Rows, Row, Items, nothing, morePrefix, moreRoute}
 use Rattle.snapshot.specs.ReturnsLaws.{open-last}
+
+-- ---- an answer and what it says
+
+-- the code's answer to what reading answers says it
+pub said-told : (a : Answer) → said (told a) ≡ saidOf a
+said-told (accepted s) = refl
+said-told (refused r at) = refl
+
+-- and it is the only one that does
+pub said-is : {r : Read} (bs : List ℕ) → said r ≡ saidOf (reading bs) → r ≡ told (reading bs)
+said-is {r} bs e = said-tells r (told (reading bs)) (e ∙ sym (said-told (reading bs)))
 
 -- a record's body lies within the input
 within-body : (bs : List ℕ) (at : ℕ) (k : ℕ) → T (leb (suc k) (length (drop at bs))) → at + suc k ≤ length bs
