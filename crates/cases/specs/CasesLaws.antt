@@ -11,6 +11,7 @@ use lib.Seq.{sets}
 use Rattle.refusal.specs.declared.Refusal.{Refusal}
 use Rattle.refusal.specs.declared.Refusal.the-variants.{Room}
 use Rattle.refusal.specs.Numbers.{numberOf}
+use Rattle.refusal.specs.NumbersLaws.{gives-refuses}
 use Rattle.model.specs.RowLaws.{by}
 use Rattle.snapshot.specs.declared.Counts.{Counts}
 use Rattle.snapshot.specs.Limits.{mostRoutes}
@@ -22,9 +23,9 @@ use Rattle.snapshot.specs.Theorems.{accepts}
 use Rattle.snapshot.specs.Tables.{Tables, short, Room as Roomy, Held}
 use Rattle.scan.specs.declared.Read.{Read}
 use Rattle.scan.specs.declared.Read.the-variants as read
-use Rattle.scan.specs.Scan.{told}
+use Rattle.scan.specs.Scan.{said as readSaid, told}
 use Rattle.reader.specs.Read.{readAnswer, readTables}
-use Rattle.reader.specs.ReadLaws.{no-room, was-accepted, tables-left}
+use Rattle.reader.specs.ReadLaws.{no-room, answer-told, was-accepted, tables-left}
 use Rattle.tables.specs.Judging.{Decides}
 use Rattle.snapshot.specs.TablesLaws.{has-room, room-enough}
 use Rattle.tables.specs.Theorems.{held-one}
@@ -79,11 +80,11 @@ same-found {c} {same} d k e = ap (Accepted c) (by same (λ yes. yes) (λ no. abs
 
 module _ (bs : List ℕ) (t : Tables) where
   -- what is accepted stands in the tables
-  taken : {c : Counts} {u : Tables} → T (areBytes bs) → read.Accepted c ≡ readAnswer bs t → u ≡ readTables bs t → Written bs c u
-  taken {c} {u} bytes e f =
+  taken : {r : Read} {c : Counts} {u : Tables} → T (areBytes bs) → r ≡ read.Accepted c → readSaid r ≡ readAnswer bs t → u ≡ readTables bs t → Written bs c u
+  taken {r} {c} {u} bytes told e f =
       let room : anyOf (short t) ≡ false =
-      by (anyOf (short t)) (λ short. absurd (let k = no-room bs t short .0 in let z : _≡_ {A = ℕ} 0 1 = cc in omega arith)) (λ enough. enough) in
-      let (s, is, counts) = was-accepted bs t room e in
+      by (anyOf (short t)) (λ short. absurd (gives-refuses Room 0 _ (sym (ap readSaid told) ∙ e ∙ sym (no-room bs t short .0)))) (λ enough. enough) in
+      let (s, is, counts) = was-accepted bs t room told e in
       let (same, valid) = accepts bs s bytes .0 is in
       let roomy = has-room t (none-any (short t) room) in
       let left = f ∙ tables-left bs t room is in
@@ -95,13 +96,12 @@ module _ (bs : List ℕ) (t : Tables) where
         bytes = same;
       }
 
-  pub kept : (r : Read) (u : Tables) → T (areBytes bs) → r ≡ readAnswer bs t → u ≡ readTables bs t → Kept r bs u
-  kept r u bytes e f = record { written = λ c is. taken bytes (sym is ∙ e) f }
+  pub kept : (r : Read) (u : Tables) → T (areBytes bs) → readSaid r ≡ readAnswer bs t → u ≡ readTables bs t → Kept r bs u
+  kept r u bytes e f = record { written = λ c is. taken bytes is e f }
 
   -- the tables are short exactly where the peers' is
-  pub found-is : {r : Finding} {answer : Read} (peers : ℕ) → anyOf (short t) ≡ ltb peers mostRoutes → answer ≡ readAnswer bs t → r ≡ finding answer → r ≡ found bs peers
-  unfolding readAnswer
-  found-is peers e a f = f ∙ ap finding a ∙ chosen (anyOf (short t)) ∙ ap (λ (b : Bool). cond b (Refused Room 0) (finding (told (reading bs)))) e
+  pub found-is : {r : Finding} (answer : Read) (peers : ℕ) → anyOf (short t) ≡ ltb peers mostRoutes → readSaid answer ≡ readAnswer bs t → r ≡ finding answer → r ≡ found bs peers
+  found-is answer peers e a f = f ∙ ap finding (answer-told bs t {r = answer} a) ∙ chosen (anyOf (short t)) ∙ ap (λ (b : Bool). cond b (Refused Room 0) (finding (told (reading bs)))) e
     where
       chosen : (b : Bool) → finding (cond b (read.Refused Room 0) (told (reading bs))) ≡ cond b (Refused Room 0) (finding (told (reading bs)))
       chosen true = refl

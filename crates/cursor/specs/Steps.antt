@@ -6,11 +6,12 @@ use mathlib.Core.List.{List, [], _∷_}
 use lib.ListN.{length, getD}
 use lib.Dec.{ltb, eqb}
 use Rattle.refusal.specs.declared.Refusal.the-variants.{Cut, Kind, Place, Full, Field, Order, Tail}
+use Rattle.refusal.specs.Numbers.{Said, refuses, gives}
 use Rattle.snapshot.specs.declared.Route.{Route}
 use Rattle.model.specs.Decision as model
 use Rattle.snapshot.specs.Ranges.{none, prefixTests, routeTests, rises, risesRoute}
 use Rattle.snapshot.specs.Records.{Form, forms, ofKind, known, sum, size, prefixForm, routeForm, valuesAt}
-use Rattle.snapshot.specs.Format.{Pair, Snapshot, routesIn, latest, Check, _else_}
+use Rattle.snapshot.specs.Format.{Pair, Snapshot, routesIn, latest, Check, _else_, judged}
 use Rattle.snapshot.specs.Reading.{recordChecks, openRoutes, routeOf, prefixRoom, routeRoom}
 use Rattle.cursor.specs.declared.Finding.{Finding}
 use Rattle.cursor.specs.declared.Finding.the-variants.{Clear, Fault}
@@ -19,6 +20,12 @@ use Rattle.cursor.specs.declared.Body.the-variants.{Bytes, Refused}
 use Rattle.cursor.specs.declared.Cursor.{Cursor}
 use Rattle.cursor.specs.declared.Sofar.{Sofar}
 use Rattle.cursor.specs.declared.Network.{Network}
+use Rattle.cursor.specs.declared.Step.{Step}
+use Rattle.cursor.specs.declared.Step.the-variants as step
+use Rattle.cursor.specs.declared.PrefixStep.{PrefixStep}
+use Rattle.cursor.specs.declared.PrefixStep.the-variants as prefixStep
+use Rattle.cursor.specs.declared.RouteStep.{RouteStep}
+use Rattle.cursor.specs.declared.RouteStep.the-variants as routeStep
 use Rattle.cursor.specs.declared.EndStep.{EndStep}
 use Rattle.cursor.specs.declared.EndStep.the-variants as endStep
 
@@ -118,6 +125,37 @@ pub record Tells (s : Snapshot) (k : Sofar) : Type 0 where
   pub beyond : (r : model.Route)
       → latest (λ q. risesRoute q r) (openRoutes (s .prefixes)) ≡ not (lateBehind (k .inside) (k .router) (k .peer) (r .router) (r .peer))
 
+-- ---- the answers in document 01's numbers
+
+-- a record was taken: the place of the next cursor and its number of records, then what the record says
+abbrev pub took : Cursor → List ℕ → Said
+took c values = gives (c .at ∷ c .records ∷ values)
+
+-- of a record that says one number
+abbrev pub stepSaid : Step → Said
+stepSaid (step.Took c n) = took c (n ∷ [])
+stepSaid (step.Refused r at) = refuses r at
+
+-- of a prefix: address and length
+abbrev pub prefixSaid : PrefixStep → Said
+prefixSaid (prefixStep.Took c p) = took c (p .address ∷ p .bits ∷ [])
+prefixSaid (prefixStep.Refused r at) = refuses r at
+
+-- of a route: its fields
+abbrev pub routeSaid : RouteStep → Said
+routeSaid (routeStep.Took c r) =
+    took c (r .router ∷ r .asn ∷ r .preference ∷ r .path ∷ r .origin ∷ r .mark ∷ r .med ∷ r .nid ∷ r .peer ∷ [])
+routeSaid (routeStep.Refused r at) = refuses r at
+
+-- of the end, which says nothing
+abbrev pub endSaid : EndStep → Said
+endSaid endStep.Ended = gives []
+endSaid (endStep.Refused r at) = refuses r at
+
+-- what is answered where these checks judge the record at a place: the refusal of the first that fails, or this
+abbrev pub judgedAt : ℕ → List Check → Said → Said
+judgedAt at checks answer = judged checks (λ r. refuses r at) (λ _. answer)
+
 -- after the end record: nothing
-abbrev pub tailStep : List ℕ → ℕ → EndStep
-tailStep bs at = cond (ltb at (length bs)) (endStep.Refused Tail at) endStep.Ended
+abbrev pub ending : List ℕ → ℕ → Said
+ending bs at = cond (ltb at (length bs)) (refuses Tail at) (gives [])

@@ -2,19 +2,16 @@
 // record and hands back the next cursor with what the record says, or a refusal with its place.
 ghost use mathlib.Core.Path.{_≡_};
 ghost use mathlib.Core.Bool.{cond};
+ghost use mathlib.Core.List.{[], _∷_};
 ghost use Prim.Native.Nat.{_+_, _≤_};
 ghost use lib.Dec.{eqb};
 ghost use lib.ListN.{length, getD, take, drop};
 ghost use Rattle.model.specs.Rows.{some};
 ghost use Rattle.snapshot.specs.Plain.{routeIs};
 ghost use Rattle.snapshot.specs.Records.{countForm, routerForm, distanceForm, prefixForm, routeForm, valuesAt};
-ghost use Rattle.snapshot.specs.Format.{judged, countChecks, routerChecks, distanceChecks, endChecks};
+ghost use Rattle.snapshot.specs.Format.{countChecks, routerChecks, distanceChecks, endChecks};
 ghost use Rattle.snapshot.specs.Reading.{countRecord, routerRecord, distanceRecord, endRecord};
 ghost use Rattle.cursor.specs.declared.Finding.the-variants.{Fault};
-ghost use Rattle.cursor.specs.declared.Step.the-variants as step;
-ghost use Rattle.cursor.specs.declared.PrefixStep.the-variants as prefixStep;
-ghost use Rattle.cursor.specs.declared.RouteStep.the-variants as routeStep;
-ghost use Rattle.cursor.specs.declared.EndStep.the-variants as endStep;
 ghost use Rattle.cursor.specs.Steps.{
   finding,
   bodyOf,
@@ -28,7 +25,13 @@ ghost use Rattle.cursor.specs.Steps.{
   routeNext,
   networkAt,
   routeAt,
-  tailStep,
+  took,
+  stepSaid,
+  prefixSaid,
+  routeSaid,
+  endSaid,
+  judgedAt,
+  ending,
 };
 use refusal::Refusal;
 use snapshot::Route;
@@ -279,9 +282,8 @@ impl Cursor {
     // Kind 1: the number of routers.
     pub fn count(self, input: &[u8]) -> Step
         requires { ⌜ self .records ≤ self .at ⌝ }
-        ensures { λ r. ⌜ r ≡ judged (countRecord (drop (self .at) (now (input .entry))))
-            (λ f. step.Refused f (self .at))
-            (λ _. step.Took (after self countForm) (getD (valuesAt countForm (now (input .entry)) (self .at)) 0 0)) ⌝ }
+        ensures { λ r. ⌜ stepSaid r ≡ judgedAt (self .at) (countRecord (drop (self .at) (now (input .entry))))
+            (took (after self countForm) (valuesAt countForm (now (input .entry)) (self .at))) ⌝ }
     {
         let at = self.at;
         match self.opening(input, 1, false, false) {
@@ -299,9 +301,8 @@ impl Cursor {
     // Kind 2: the id of the router whose index is due, where `given` ids stand before it.
     pub fn router(self, input: &[u8], routers: u32, ids: &[u32], given: usize) -> Step
         requires { ⌜ (self .records ≤ self .at) × (given ≤ length (now ids)) ⌝ }
-        ensures { λ r. ⌜ r ≡ judged (routerRecord routers (take given (now (ids .entry))) (drop (self .at) (now (input .entry))))
-            (λ f. step.Refused f (self .at))
-            (λ _. step.Took (after self routerForm) (getD (valuesAt routerForm (now (input .entry)) (self .at)) 1 0)) ⌝ }
+        ensures { λ r. ⌜ stepSaid r ≡ judgedAt (self .at) (routerRecord routers (take given (now (ids .entry))) (drop (self .at) (now (input .entry))))
+            (took (after self routerForm) (getD (valuesAt routerForm (now (input .entry)) (self .at)) 1 0 ∷ [])) ⌝ }
     {
         let at = self.at;
         match self.opening(input, 2, false, false) {
@@ -319,9 +320,8 @@ impl Cursor {
     // Kind 3: the distance of the pair that is due.
     pub fn distance(self, input: &[u8], routers: u32, from: u32, to: u32) -> Step
         requires { ⌜ self .records ≤ self .at ⌝ }
-        ensures { λ r. ⌜ r ≡ judged (distanceRecord routers (due from to) (drop (self .at) (now (input .entry))))
-            (λ f. step.Refused f (self .at))
-            (λ _. step.Took (after self distanceForm) (getD (valuesAt distanceForm (now (input .entry)) (self .at)) 2 0)) ⌝ }
+        ensures { λ r. ⌜ stepSaid r ≡ judgedAt (self .at) (distanceRecord routers (due from to) (drop (self .at) (now (input .entry))))
+            (took (after self distanceForm) (getD (valuesAt distanceForm (now (input .entry)) (self .at)) 2 0 ∷ [])) ⌝ }
     {
         let at = self.at;
         match self.opening(input, 3, false, false) {
@@ -346,9 +346,8 @@ impl Cursor {
     // Kind 4: a prefix, behind what was read so far.
     pub fn prefix(self, input: &[u8], k: Sofar) -> PrefixStep
         requires { ⌜ self .records ≤ self .at ⌝ }
-        ensures { λ r. ⌜ r ≡ judged (prefixNext k (drop (self .at) (now (input .entry))))
-            (λ f. prefixStep.Refused f (self .at))
-            (λ _. prefixStep.Took (after self prefixForm) (networkAt (now (input .entry)) (self .at))) ⌝ }
+        ensures { λ r. ⌜ prefixSaid r ≡ judgedAt (self .at) (prefixNext k (drop (self .at) (now (input .entry))))
+            (took (after self prefixForm) (valuesAt prefixForm (now (input .entry)) (self .at))) ⌝ }
     {
         let at = self.at;
         match self.opening(input, 4, false, snapshot::MOST_PREFIXES <= k.prefixes) {
@@ -366,9 +365,8 @@ impl Cursor {
     // Kind 5: a route, behind what was read so far.
     pub fn route(self, input: &[u8], k: Sofar) -> RouteStep
         requires { ⌜ self .records ≤ self .at ⌝ }
-        ensures { λ r. ⌜ r ≡ judged (routeNext k (drop (self .at) (now (input .entry))))
-            (λ f. routeStep.Refused f (self .at))
-            (λ _. routeStep.Took (after self routeForm) (routeAt (now (input .entry)) (self .at))) ⌝ }
+        ensures { λ r. ⌜ routeSaid r ≡ judgedAt (self .at) (routeNext k (drop (self .at) (now (input .entry))))
+            (took (after self routeForm) (valuesAt routeForm (now (input .entry)) (self .at))) ⌝ }
     {
         let at = self.at;
         let full = (snapshot::MOST_IN_PREFIX <= k.inside) | (snapshot::MOST_ROUTES <= k.routes);
@@ -386,9 +384,8 @@ impl Cursor {
 
     // Kind 6: the end, and then nothing.
     pub fn end(self, input: &[u8]) -> EndStep
-        ensures { λ r. ⌜ r ≡ judged (endRecord (self .records) (drop (self .at) (now (input .entry))))
-            (λ f. endStep.Refused f (self .at))
-            (λ _. tailStep (now (input .entry)) (self .at + 5)) ⌝ }
+        ensures { λ r. ⌜ endSaid r ≡ judgedAt (self .at) (endRecord (self .records) (drop (self .at) (now (input .entry))))
+            (ending (now (input .entry)) (self .at + 5)) ⌝ }
     {
         let at = self.at;
         match self.opening(input, 6, false, false) {

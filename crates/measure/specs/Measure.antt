@@ -2,11 +2,8 @@
 use Prim.Native.Nat.{ℕ}
 use mathlib.Core.Path.{_≡_}
 use mathlib.Core.List.{List}
-use Rattle.refusal.specs.Numbers.{numberOf}
 use Rattle.snapshot.specs.declared.Counts.{Counts}
 use Rattle.snapshot.specs.Tables.{Tables}
-use Rattle.scan.specs.declared.Read.{Read}
-use Rattle.scan.specs.declared.Read.the-variants as read
 use Rattle.reader.specs.Read.{readAnswer, readTables}
 use Rattle.writer.specs.declared.Write.{Write}
 use Rattle.writer.specs.declared.Write.the-variants as write
@@ -16,15 +13,10 @@ use Rattle.outlook.specs.declared.Outlook.{Outlook}
 use Rattle.outlook.specs.declared.Outlook.the-variants as outlook
 use Rattle.outlook.specs.Outlook as forecasting
 
--- 0 for accepted, or the number of the refusal
-abbrev pub readNumber : Read → ℕ
-readNumber (read.Accepted c) = 0
-readNumber (read.Refused r at) = numberOf r
-
--- what reading answers and leaves
+-- what reading answers, its number alone, and leaves
 pub record Reads (bs : List ℕ) (before after : Tables) (r : ℕ) : Type 0 where
   pub tables : after ≡ readTables bs before
-  pub number : r ≡ readNumber (readAnswer bs before)
+  pub number : r ≡ readAnswer bs before .number
 
 -- these counts
 abbrev pub counted : ℕ → ℕ → ℕ → Counts

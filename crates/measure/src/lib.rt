@@ -6,11 +6,12 @@ use writer::Write;
 ghost use mathlib.Core.Path.{_≡_};
 ghost use Rattle.model.specs.Lent.{was, is};
 ghost use Rattle.snapshot.specs.Tables.{tables, columns};
-ghost use Rattle.measure.specs.Measure.{readNumber, Reads, Writes, Forecasts};
+ghost use Rattle.scan.specs.Scan.{said};
+ghost use Rattle.measure.specs.Measure.{Reads, Writes, Forecasts};
 
 // What reading answers, as a number.
 fn read_number(read: Read) -> u32
-    ensures { λ r. ⌜ r ≡ readNumber read ⌝ }
+    ensures { λ r. ⌜ r ≡ said read .number ⌝ }
 {
     match read {
         Read::Refused(r, _) => refusal::number(r),

@@ -28,6 +28,7 @@ use Rattle.snapshot.specs.TablesLaws.{has-room}
 use Rattle.tables.specs.FilledLaws.{filled-held, filled-room}
 use Rattle.outlook.specs.Outlook.{cut}
 use Rattle.outlook.specs.OutlookLaws.{whole, part-of, n-is, same-parts, lent, pair}
+use Rattle.scan.specs.Scan.{said}
 use Rattle.reader.specs.Read.{readAnswer, readTables}
 use Rattle.reader.specs.ReadLaws.{was-refused, was-accepted, tables-left}
 use Rattle.lines.specs.Lines.{widest, headingLine}
@@ -114,10 +115,10 @@ module _ (bs : List ℕ) (t : Tables) (enough : anyOf (short t) ≡ false) (byte
     holding : Holding c u
     text : page bs ≡ snapshotText (holding .snapshot)
 
-  filled-page : {c : Counts} {u : Tables} → read.Accepted c ≡ readAnswer bs t → u ≡ readTables bs t → Filled c u
+  filled-page : {r : Read} {c : Counts} {u : Tables} → r ≡ read.Accepted c → said r ≡ readAnswer bs t → u ≡ readTables bs t → Filled c u
   unfolding page
-  filled-page {c} {u} e f =
-      let (s, is, counts) = was-accepted bs t enough e in
+  filled-page {c = c} {u = u} told e f =
+      let (s, is, counts) = was-accepted bs t enough told e in
       let valid = accepts bs s bytes .0 is .1 in
       let roomy = has-room t (none-any (short t) enough) in
       let left = f ∙ tables-left bs t enough is in
@@ -132,19 +133,19 @@ module _ (bs : List ℕ) (t : Tables) (enough : anyOf (short t) ≡ false) (byte
       }
 
   -- so its prefixes may be decided
-  pub ready : (r : Read) (u : Tables) (n : ℕ) → r ≡ readAnswer bs t → u ≡ readTables bs t → widestPage ≤ n
+  pub ready : (r : Read) (u : Tables) (n : ℕ) → said r ≡ readAnswer bs t → u ≡ readTables bs t → widestPage ≤ n
       → Ready r (u .ids) (u .distances) (u .address) (u .bits) (u .routes) (whole u) n
   ready r u n e f l = record {
-    blocks = λ c is. let g = filled-page (sym is ∙ e) f in blocks c u (g .room) (g .holding);
+    blocks = λ c is. let g = filled-page is e f in blocks c u (g .room) (g .holding);
     out-long = l;
   }
 
   -- the page of what was read is the page of the bytes: a refusal is one line
-  pub page-is : (r : Read) (u : Tables) → r ≡ readAnswer bs t → u ≡ readTables bs t
+  pub page-is : (r : Read) (u : Tables) → said r ≡ readAnswer bs t → u ≡ readTables bs t
       → lentPage r (u .ids) (u .distances) (u .address) (u .bits) (u .routes) (whole u) ≡ page bs
   unfolding page
-  page-is (read.Accepted c) u e f = let g = filled-page e f in tables-text c u (g .room) (g .holding) ∙ sym (g .text)
-  page-is (read.Refused r at) u e f = sym (ap answerText (was-refused bs t enough e))
+  page-is (read.Accepted c) u e f = let g = filled-page refl e f in tables-text c u (g .room) (g .holding) ∙ sym (g .text)
+  page-is (read.Refused r at) u e f = sym (ap answerText (was-refused bs t enough {r = r} refl e))
 
 -- ---- one answer
 

@@ -2,6 +2,7 @@
 ghost use mathlib.Core.Path.{_≡_};
 ghost use Rattle.model.specs.Lent.{was, is};
 ghost use Rattle.snapshot.specs.Tables.{columns, tables};
+ghost use Rattle.scan.specs.Scan.{said};
 ghost use Rattle.reader.specs.Read.{readAnswer, readTables};
 use refusal::Refusal;
 use scan::Read;
@@ -25,7 +26,7 @@ pub fn read_snapshot(
     nid: &mut [u32],
     peer: &mut [u32],
 ) -> Read
-    ensures { λ r. ⌜ (r ≡ readAnswer (was input) (tables (was ids) (was distances) (was address) (was bits) (was routes)
+    ensures { λ r. ⌜ (said r ≡ readAnswer (was input) (tables (was ids) (was distances) (was address) (was bits) (was routes)
         (columns (was router) (was asn) (was preference) (was path) (was origin) (was mark) (was med) (was nid) (was peer))))
         × (tables (is ids) (is distances) (is address) (is bits) (is routes)
         (columns (is router) (is asn) (is preference) (is path) (is origin) (is mark) (is med) (is nid) (is peer))

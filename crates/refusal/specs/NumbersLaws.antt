@@ -1,7 +1,7 @@
 -- A number tells its refusal: no two refusals share one, and each lies in 1 to 12. So an answer in numbers tells what it is.
 use Prim.Native.Nat.{ℕ, _≤_}
 use native.Mathlib.Omega.{arith}
-use mathlib.Core.Path.{_≡_, refl, sym, ap, _∙_}
+use mathlib.Core.Path.{_≡_, refl, sym, ap, ap₂, _∙_}
 use mathlib.Core.List.{List, [], _∷_}
 use lib.ListN.{getD}
 use lib.Dec.{lit≤}
@@ -46,9 +46,17 @@ number-range Tail = (lit≤ tt, lit≤ tt)
 number-range Table = (lit≤ tt, lit≤ tt)
 number-range NoPrefix = (lit≤ tt, lit≤ tt)
 
+-- the k-th value of an answer
+abbrev pub value : Said → ℕ → ℕ
+value s k = getD (s .values) k 0
+
 -- a refusal is told by its number and its place
 pub refuses-tells : (a b : Refusal) (at place : ℕ) → refuses a at ≡ refuses b place → (a ≡ b) × (at ≡ place)
-refuses-tells a b at place e = (number-tells a b (ap (λ (s : Said). s .number) e), ap (λ (s : Said). getD (s .values) 0 0) e)
+refuses-tells a b at place e = (number-tells a b (ap (λ (s : Said). s .number) e), ap (λ (s : Said). value s 0) e)
+
+-- so whatever is made of them is the same
+pub same-refusal : {A : Type 0} (make : Refusal → ℕ → A) (a b : Refusal) (at place : ℕ) → refuses a at ≡ refuses b place → make a at ≡ make b place
+same-refusal make a b at place e = let (r, p) = refuses-tells a b at place e in ap₂ make r p
 
 -- and nothing that is given is one
 pub gives-refuses : (a : Refusal) (at : ℕ) (values : List ℕ) → gives values ≡ refuses a at → ⊥

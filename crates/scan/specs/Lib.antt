@@ -1,2 +1,3 @@
 pub mod Scan
 pub mod ScanLaws
+pub mod Theorems

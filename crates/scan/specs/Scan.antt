@@ -1,8 +1,10 @@
 -- What the first pass answers, and what it knows at each place of it.
 use Prim.Native.Nat.{ℕ, suc, _+_, _-_, _≤_, _<_}
 use mathlib.Core.Path.{_≡_}
-use mathlib.Core.List.{List, _++_}
+use mathlib.Core.List.{List, [], _∷_, _++_}
 use lib.ListN.{length, take, drop}
+use Rattle.refusal.specs.Numbers.{Said, refuses, gives}
+use Rattle.snapshot.specs.declared.Counts.{Counts}
 use Rattle.snapshot.specs.declared.Route.{Route}
 use Rattle.snapshot.specs.Format.{Snapshot, Pair, row, rows, records}
 use Rattle.snapshot.specs.Reading.{Answer, accepted, refused, reading, routers, distances, items}
@@ -20,7 +22,21 @@ use Rattle.scan.specs.declared.Section.the-variants as section
 use Rattle.scan.specs.declared.Item.{Item}
 use Rattle.scan.specs.declared.Item.the-variants.{Next, Over}
 
--- the answer of the code: the snapshot's counts, or the refusal and its place
+-- accepted: the numbers of routers, prefixes and routes
+abbrev pub counted : Counts → Said
+counted c = gives (c .routers ∷ c .prefixes ∷ c .routes ∷ [])
+
+-- an answer of the code, in document 01's numbers
+abbrev pub said : Read → Said
+said (read.Accepted c) = counted c
+said (read.Refused r at) = refuses r at
+
+-- what reading answers, in the same numbers: the snapshot's counts, or the refusal and its place
+abbrev pub saidOf : Answer → Said
+saidOf (accepted s) = counted (countsOf s)
+saidOf (refused r at) = refuses r at
+
+-- the answer of the code to what reading answers
 abbrev pub told : Answer → Read
 told (accepted s) = read.Accepted (countsOf s)
 told (refused r at) = read.Refused r at

@@ -3,7 +3,7 @@ use Prim.Native.Nat.{ℕ, suc, _+_, _-_, _≤_, _<_, zero-le}
 use native.Mathlib.Numerals.{add-one}
 use native.Mathlib.Decide.{decLe}
 use native.Mathlib.Omega.{arith}
-use mathlib.Core.Path.{_≡_, refl, sym, ap, ap₂, _∙_, subst}
+use mathlib.Core.Path.{_≡_, refl, sym, ap, _∙_, subst}
 use mathlib.Core.Logic.{_≢_}
 use mathlib.Core.Bool.{Bool, true, false, cond, not, _&&_}
 use mathlib.Core.List.{List, [], _∷_, _++_}
@@ -13,13 +13,15 @@ use lib.Dec.{T, leb, eqb, leb→le, ltb→lt}
 use borrow.Author.Tests.{ne-eqb, lt-ltb, le-ltb}
 use Rattle.refusal.specs.declared.Refusal.{Refusal}
 use Rattle.refusal.specs.declared.Refusal.the-variants.{Tail}
+use Rattle.refusal.specs.Numbers.{Said, refuses, gives}
+use Rattle.refusal.specs.NumbersLaws.{same-refusal, gives-refuses}
 use Rattle.model.specs.Decision as model
 use Rattle.snapshot.specs.declared.Route.{Route}
 use Rattle.snapshot.specs.Limits.{mostRouters, mostPrefixes, mostInPrefix, mostRoutes}
 use Rattle.snapshot.specs.Ranges.{rises, risesRoute}
 use Rattle.snapshot.specs.Plain.{routeIs}
 use Rattle.snapshot.specs.Records.{countForm, routerForm, distanceForm, prefixForm, routeForm, endForm, size, valuesAt}
-use Rattle.snapshot.specs.Format.{Snapshot, Prefix, Pair, pairs, row, rows, records, routesIn, latest, Check, judged, Holds}
+use Rattle.snapshot.specs.Format.{Snapshot, Prefix, Pair, pairs, row, rows, records, routesIn, latest, Check, Holds}
 use Rattle.snapshot.specs.Reading.{Answer, accepted, refused, unless, prefixExtra, prefixValues, prefixRecord, routeExtra, routeValues, routeRecord, endRecord, openRoutes, addRoute, withPrefixes, prefixOf, routeOf, tail, items, distanceRecord, distances, routerRecord, routers, countValues, countRecord, reading}
 use Rattle.snapshot.specs.ChecksLaws.{judged-cases, passed, count-range, length-snoc, latest-snoc, routesIn-append, routesIn-add, length-add, some-prefix}
 use Rattle.snapshot.specs.PlaceLaws.{reading-count, routers-one, routers-none, distances-one, distances-none, items-one-prefix, items-one-route, items-last, tail-none, tail-some}
@@ -27,15 +29,33 @@ use Rattle.snapshot.specs.PairsLaws.{due-row, due-equal, due-other, due-row-end
 use Rattle.cursor.specs.declared.Cursor.{Cursor}
 use Rattle.cursor.specs.declared.Network.{Network}
 use Rattle.cursor.specs.declared.Sofar.{Sofar}
+use Rattle.cursor.specs.declared.Step.{Step}
 use Rattle.cursor.specs.declared.Step.the-variants as step
+use Rattle.cursor.specs.declared.PrefixStep.{PrefixStep}
 use Rattle.cursor.specs.declared.PrefixStep.the-variants as prefixStep
+use Rattle.cursor.specs.declared.RouteStep.{RouteStep}
 use Rattle.cursor.specs.declared.RouteStep.the-variants as routeStep
+use Rattle.cursor.specs.declared.EndStep.{EndStep}
 use Rattle.cursor.specs.declared.EndStep.the-variants as endStep
-use Rattle.cursor.specs.Steps.{begin, after, due, prefixNext, routeNext, networkAt, routeAt, tailStep, lateBehind, Tells}
+use Rattle.cursor.specs.Steps.{begin, after, due, prefixNext, routeNext, networkAt, routeAt, took, stepSaid, prefixSaid, routeSaid, endSaid, judgedAt, ending, lateBehind, Tells}
 use Rattle.cursor.specs.StepsLaws.{prefix-told, route-told}
+use Rattle.cursor.specs.Theorems.{step-tells, prefix-tells, route-tells, end-tells}
+use Rattle.scan.specs.declared.Read.{Read}
 use Rattle.scan.specs.declared.Read.the-variants as read
-use Rattle.scan.specs.Scan.{told, answered, Routers, Distances, Rows, Row, Items, nothing, morePrefix, moreRoute}
+use Rattle.scan.specs.Theorems.{said-tells}
+use Rattle.scan.specs.Scan.{said, saidOf, told, answered, Routers, Distances, Rows, Row, Items, nothing, morePrefix, moreRoute}
 use Rattle.snapshot.specs.ReturnsLaws.{open-last}
+
+-- ---- an answer and what it says
+
+-- the code's answer to what reading answers says it
+pub said-told : (a : Answer) → said (told a) ≡ saidOf a
+said-told (accepted s) = refl
+said-told (refused r at) = refl
+
+-- and it is the only one that does
+pub said-is : {r : Read} (bs : List ℕ) → said r ≡ saidOf (reading bs) → r ≡ told (reading bs)
+said-is {r} bs e = said-tells r (told (reading bs)) (e ∙ sym (said-told (reading bs)))
 
 -- a record's body lies within the input
 within-body : (bs : List ℕ) (at : ℕ) (k : ℕ) → T (leb (suc k) (length (drop at bs))) → at + suc k ≤ length bs
@@ -46,21 +66,23 @@ within-body bs at k t =
 
 -- ---- the steps of records that say one number
 
-abbrev stepOf : List Check → ℕ → Cursor → ℕ → step.the-data
-stepOf checks at next v = judged checks (λ f. step.Refused f at) (λ _. step.Took next v)
+abbrev stepOf : List Check → ℕ → Cursor → ℕ → Said
+stepOf checks at next v = judgedAt at checks (took next (v ∷ []))
 
-module _ (checks : List Check) (at : ℕ) (next : Cursor) (v : ℕ) (go : Unit {0} → Answer) where
-  step-refused : (r : Refusal) (place : ℕ) → step.Refused r place ≡ stepOf checks at next v → unless checks at go ≡ refused r place
-  step-refused r place e =
-      judged-cases checks (λ f. step.Refused f at) (λ _. step.Took next v) (λ r. refused r at) go (step.Refused r place) (sym e)
-      (λ f d g. g ∙ (let a : f ≡ r = cc in let b : at ≡ place = cc in ap₂ refused a b))
-      (λ h d g. absurd (let z : _≡_ {A = ℕ} 0 1 = cc in omega arith))
+module _ (checks : List Check) (at : ℕ) (next : Cursor) (v : ℕ) (go : Unit {0} → Answer) {x : Step} (e : stepSaid x ≡ stepOf checks at next v) where
+  step-refused : {r : Refusal} {place : ℕ} → x ≡ step.Refused r place → unless checks at go ≡ refused r place
+  step-refused {r} {place} is =
+      judged-cases checks (λ f. refuses f at) (λ _. took next (v ∷ [])) (λ r. refused r at) go (stepSaid x) (sym e)
+      (λ f d g. g ∙ same-refusal refused f r at place (d ∙ ap stepSaid is))
+      (λ h d g. absurd (gives-refuses r place _ (d ∙ ap stepSaid is)))
 
-  step-took : (c : Cursor) (w : ℕ) → step.Took c w ≡ stepOf checks at next v → Holds checks × (c ≡ next) × (w ≡ v) × (unless checks at go ≡ go tt)
-  step-took c w e =
-      judged-cases checks (λ f. step.Refused f at) (λ _. step.Took next v) (λ r. refused r at) go (step.Took c w) (sym e)
-      (λ f d g. absurd (let z : _≡_ {A = ℕ} 0 1 = cc in omega arith))
-      (λ h d g. (h, let a : c ≡ next = cc in a, let b : w ≡ v = cc in b, g))
+  step-took : {c : Cursor} {w : ℕ} → x ≡ step.Took c w → Holds checks × (c ≡ next) × (w ≡ v) × (unless checks at go ≡ go tt)
+  step-took {c} {w} is =
+      judged-cases checks (λ f. refuses f at) (λ _. took next (v ∷ [])) (λ r. refused r at) go (stepSaid x) (sym e)
+      (λ f d g. absurd (gives-refuses f at _ (sym (d ∙ ap stepSaid is))))
+      (λ h d g.
+      let same : step.Took c w ≡ step.Took next v = sym is ∙ step-tells x (step.Took next v) (sym d) in
+      (h, let a : c ≡ next = cc in a, let b : w ≡ v = cc in b, g))
 
 -- ---- the number of routers
 
@@ -68,14 +90,16 @@ module _ (bs : List ℕ) where
   abbrev counted : ℕ
   counted = getD (valuesAt countForm bs 0) 0 0
 
-  pub count-stop : {r : Refusal} {place : ℕ} → step.Refused r place ≡ stepOf (countRecord (drop 0 bs)) 0 (after begin countForm) counted → reading bs ≡ refused r place
-  count-stop {r} {place} e = reading-count bs ∙ step-refused (countRecord bs) 0 (after begin countForm) counted _ r place e
+  pub count-stop : {x : Step} {r : Refusal} {place : ℕ} → x ≡ step.Refused r place → stepSaid x ≡ stepOf (countRecord (drop 0 bs)) 0 (after begin countForm) counted
+      → reading bs ≡ refused r place
+  count-stop is e = reading-count bs ∙ step-refused (countRecord bs) 0 (after begin countForm) counted _ e is
 
-  pub count-next : {c : Cursor} {n : ℕ} (ids : List ℕ) → mostRouters ≤ length ids → step.Took c n ≡ stepOf (countRecord (drop 0 bs)) 0 (after begin countForm) counted → Routers bs n 0 ids c
+  pub count-next : {x : Step} {c : Cursor} {n : ℕ} (ids : List ℕ) → mostRouters ≤ length ids → x ≡ step.Took c n → stepSaid x ≡ stepOf (countRecord (drop 0 bs)) 0 (after begin countForm) counted
+      → Routers bs n 0 ids c
   unfolding countRecord
-  count-next {c} {n} ids room e =
+  count-next {c = c} {n = n} ids room took e =
       let (h, at, is, go) = step-took (countRecord bs) 0 (after begin countForm) counted
-      (λ _. routers counted counted [] (size countForm) (drop (size countForm) bs)) c n e in
+      (λ _. routers counted counted [] (size countForm) (drop (size countForm) bs)) e took in
       let (low, high) = count-range counted (passed countForm [] countValues bs h .good .0) in
       let few : n ≤ mostRouters = rw is high in
       record {
@@ -101,13 +125,14 @@ module _ {bs : List ℕ} {n i : ℕ} {ids : List ℕ} {c : Cursor} (s : Routers 
       s .same ∙ ap (λ (m : ℕ). routers n m (take i ids) (c .at) (drop (c .at) bs)) (let z : n - i ≡ suc (n - suc i) = omega arith in z)
       ∙ routers-one bs (c .at) n (n - suc i) (take i ids)
 
-  pub routers-stop : {r : Refusal} {place : ℕ} → i < n → step.Refused r place ≡ stepOf routerChecksAt (c .at) (after c routerForm) idAt → reading bs ≡ refused r place
-  routers-stop {r} {place} l e = routers-now l ∙ step-refused routerChecksAt (c .at) (after c routerForm) idAt _ r place e
+  pub routers-stop : {x : Step} {r : Refusal} {place : ℕ} → i < n → x ≡ step.Refused r place → stepSaid x ≡ stepOf routerChecksAt (c .at) (after c routerForm) idAt → reading bs ≡ refused r place
+  routers-stop l is e = routers-now l ∙ step-refused routerChecksAt (c .at) (after c routerForm) idAt _ e is
 
-  pub routers-next : {next : Cursor} {id : ℕ} → i < n → step.Took next id ≡ stepOf routerChecksAt (c .at) (after c routerForm) idAt → Routers bs n (i + 1) (set ids i id) next
-  routers-next {next} {id} l e =
+  pub routers-next : {x : Step} {next : Cursor} {id : ℕ} → i < n → x ≡ step.Took next id → stepSaid x ≡ stepOf routerChecksAt (c .at) (after c routerForm) idAt
+      → Routers bs n (i + 1) (set ids i id) next
+  routers-next {next = next} {id = id} l took e =
       let (h, at, is, go) = step-took routerChecksAt (c .at) (after c routerForm) idAt
-      (λ _. routers n (n - suc i) (take i ids ++ (idAt ∷ [])) (c .at + size routerForm) (drop (c .at + size routerForm) bs)) next id e in
+      (λ _. routers n (n - suc i) (take i ids ++ (idAt ∷ [])) (c .at + size routerForm) (drop (c .at + size routerForm) bs)) e took in
       let room : n ≤ length ids = s .room in
       let long = length-set ids i id in
       let more : take (i + 1) (set ids i id) ≡ take i ids ++ (idAt ∷ []) =
@@ -156,13 +181,13 @@ module _ {bs : List ℕ} {n : ℕ} {c : Cursor} (p : Pair) (more : List Pair) (s
       ∙ ap (λ (m : ℕ). unless (distanceRecord m p (drop (c .at) bs)) (c .at) λ _.
       distances more (s .ids) (s .ds ++ (distanceAt ∷ [])) (c .at + size distanceForm) (drop (c .at + size distanceForm) bs)) (s .long)
 
-  distances-stop : {r : Refusal} {place : ℕ} → step.Refused r place ≡ stepOf distanceChecksAt (c .at) (after c distanceForm) distanceAt → reading bs ≡ refused r place
-  distances-stop {r} {place} e = distances-now ∙ step-refused distanceChecksAt (c .at) (after c distanceForm) distanceAt _ r place e
+  distances-stop : {x : Step} {r : Refusal} {place : ℕ} → x ≡ step.Refused r place → stepSaid x ≡ stepOf distanceChecksAt (c .at) (after c distanceForm) distanceAt → reading bs ≡ refused r place
+  distances-stop is e = distances-now ∙ step-refused distanceChecksAt (c .at) (after c distanceForm) distanceAt _ e is
 
-  distances-next : {next : Cursor} {d : ℕ} → step.Took next d ≡ stepOf distanceChecksAt (c .at) (after c distanceForm) distanceAt → Distances bs n more next
-  distances-next {next} {d} e =
+  distances-next : {x : Step} {next : Cursor} {d : ℕ} → x ≡ step.Took next d → stepSaid x ≡ stepOf distanceChecksAt (c .at) (after c distanceForm) distanceAt → Distances bs n more next
+  distances-next took e =
       let (h, at, is, go) = step-took distanceChecksAt (c .at) (after c distanceForm) distanceAt
-      (λ _. distances more (s .ids) (s .ds ++ (distanceAt ∷ [])) (c .at + size distanceForm) (drop (c .at + size distanceForm) bs)) next d e in
+      (λ _. distances more (s .ids) (s .ds ++ (distanceAt ∷ [])) (c .at + size distanceForm) (drop (c .at + size distanceForm) bs)) e took in
       let count : c .records ≡ 1 + n + length (s .ds) = s .records in
       let below : c .records ≤ c .at = s .low in
       let one = length-snoc (s .ds) distanceAt in
@@ -210,19 +235,19 @@ module _ {bs : List ℕ} {n : ℕ} {c : Cursor} where
     row-due : to < n → (from ≡ to → ⊥) → Distances bs n (due from to ∷ (row from (suc to) (n - suc to) ++ others)) c
     row-due l e = due-is (ap (λ (l : List Pair). l ++ others) (due-other n from to l e)) (s .left)
 
-    pub row-stop : {r : Refusal} {place : ℕ} → to < n → (from ≡ to → ⊥)
-        → step.Refused r place ≡ stepOf (distanceRecord n (due from to) (drop (c .at) bs)) (c .at) (after c distanceForm) (getD (valuesAt distanceForm bs (c .at)) 2 0)
+    pub row-stop : {x : Step} {r : Refusal} {place : ℕ} → to < n → (from ≡ to → ⊥) → x ≡ step.Refused r place
+        → stepSaid x ≡ stepOf (distanceRecord n (due from to) (drop (c .at) bs)) (c .at) (after c distanceForm) (getD (valuesAt distanceForm bs (c .at)) 2 0)
         → reading bs ≡ refused r place
-    row-stop l e d = distances-stop (due from to) (row from (suc to) (n - suc to) ++ others) (row-due l e) d
+    row-stop l e is d = distances-stop (due from to) (row from (suc to) (n - suc to) ++ others) (row-due l e) is d
 
-    pub row-next : {next : Cursor} {d : ℕ} → to < n → (from ≡ to → ⊥)
-        → step.Took next d ≡ stepOf (distanceRecord n (due from to) (drop (c .at) bs)) (c .at) (after c distanceForm) (getD (valuesAt distanceForm bs (c .at)) 2 0)
+    pub row-next : {x : Step} {next : Cursor} {d : ℕ} → to < n → (from ≡ to → ⊥) → x ≡ step.Took next d
+        → stepSaid x ≡ stepOf (distanceRecord n (due from to) (drop (c .at) bs)) (c .at) (after c distanceForm) (getD (valuesAt distanceForm bs (c .at)) 2 0)
         → Row bs n from (to + 1) next
-    row-next {next} l e d = record {
+    row-next {next = next} l e is d = record {
       known = s .known;
       within = omega arith;
       left = subst (λ (t : ℕ). Distances bs n (row from t (n - t) ++ others) next) (sym (add-one to))
-          (distances-next (due from to) (row from (suc to) (n - suc to) ++ others) (row-due l e) d);
+          (distances-next (due from to) (row from (suc to) (n - suc to) ++ others) (row-due l e) is d);
     }
 
     pub row-end : n ≤ to → Rows bs n (from + 1) c
@@ -324,34 +349,35 @@ module _ {bs : List ℕ} {c : Cursor} {k : Sofar} (i : Items bs c k) where
 
   -- ---- a prefix
   module _ (is : getD bs (c .at) 0 ≡ 4) where
-    abbrev prefixStepOf : prefixStep.the-data
-    prefixStepOf = judged (prefixNext k (drop at bs)) (λ f. prefixStep.Refused f at) (λ _. prefixStep.Took (after c prefixForm) (networkAt bs at))
+    abbrev prefixStepOf : Said
+    prefixStepOf = judgedAt at (prefixNext k (drop at bs)) (took (after c prefixForm) (valuesAt prefixForm bs at))
 
-    prefix-cases : {G : Type 0} (x : prefixStep.the-data) → x ≡ prefixStepOf
-        → ((r : Refusal) → prefixStep.Refused r at ≡ x → reading bs ≡ refused r at → G)
-        → (Holds (prefixRecord (i .s) (drop at bs)) → prefixStep.Took (after c prefixForm) (networkAt bs at) ≡ x
+    prefix-cases : {G : Type 0} (x : Said) → x ≡ prefixStepOf
+        → ((r : Refusal) → refuses r at ≡ x → reading bs ≡ refused r at → G)
+        → (Holds (prefixRecord (i .s) (drop at bs)) → took (after c prefixForm) (valuesAt prefixForm bs at) ≡ x
         → reading bs ≡ items (withPrefixes (i .s) (i .s .prefixes ++ (prefixOf (valuesAt prefixForm bs at) ∷ []))) (at + size prefixForm) (drop (at + size prefixForm) bs) → G)
         → G
     prefix-cases x e f g =
-        judged-cases (prefixRecord (i .s) (drop at bs)) (λ f. prefixStep.Refused f at) (λ _. prefixStep.Took (after c prefixForm) (networkAt bs at))
+        judged-cases (prefixRecord (i .s) (drop at bs)) (λ f. refuses f at) (λ _. took (after c prefixForm) (valuesAt prefixForm bs at))
         (λ r. refused r at) (λ _. items (withPrefixes (i .s) (i .s .prefixes ++ (prefixOf (valuesAt prefixForm bs at) ∷ []))) (at + size prefixForm) (drop (at + size prefixForm) bs))
-        x (ap (λ (l : List Check). judged l (λ f. prefixStep.Refused f at) (λ _. prefixStep.Took (after c prefixForm) (networkAt bs at))) (prefix-told (i .tells) (drop at bs)) ∙ sym e)
+        x (ap (λ (l : List Check). judgedAt at l (took (after c prefixForm) (valuesAt prefixForm bs at))) (prefix-told (i .tells) (drop at bs)) ∙ sym e)
         (λ r d h. f r d (i .same ∙ items-one-prefix bs at (i .s) is ∙ h))
         (λ p d h. g p d (i .same ∙ items-one-prefix bs at (i .s) is ∙ h))
 
-    pub prefix-stop : {r : Refusal} {place : ℕ} → prefixStep.Refused r place ≡ prefixStepOf → read.Refused r place ≡ told (reading bs)
-    prefix-stop {r} {place} e =
-        prefix-cases (prefixStep.Refused r place) e
-        (λ f d h. (let a : read.Refused r place ≡ read.Refused f at = cc in a) ∙ sym (ap told h))
-        (λ p d h. absurd (let z : _≡_ {A = ℕ} 0 1 = cc in omega arith))
+    pub prefix-stop : {x : PrefixStep} {r : Refusal} {place : ℕ} → x ≡ prefixStep.Refused r place → prefixSaid x ≡ prefixStepOf → read.Refused r place ≡ told (reading bs)
+    prefix-stop {x} {r} {place} is e =
+        prefix-cases (prefixSaid x) e
+        (λ f d h. same-refusal read.Refused r f place at (sym (d ∙ ap prefixSaid is)) ∙ sym (ap told h))
+        (λ p d h. absurd (gives-refuses r place _ (d ∙ ap prefixSaid is)))
 
-    pub prefix-next : {next : Cursor} {p : Network} → prefixStep.Took next p ≡ prefixStepOf
+    pub prefix-next : {x : PrefixStep} {next : Cursor} {p : Network} → x ≡ prefixStep.Took next p → prefixSaid x ≡ prefixStepOf
         → (k .prefixes < mostPrefixes) × Items bs next (morePrefix k p) × (c .at < next .at) × (next .at ≤ length bs)
     unfolding prefixRecord
-    prefix-next {next} {p} e =
-        prefix-cases (prefixStep.Took next p) e
-        (λ f d h. absurd (let z : _≡_ {A = ℕ} 0 1 = cc in omega arith))
+    prefix-next {x} {next} {p} took e =
+        prefix-cases (prefixSaid x) e
+        (λ f d h. absurd (gives-refuses f at _ (sym (d ∙ ap prefixSaid took))))
         (λ hold d h.
+        let same : prefixStep.Took (after c prefixForm) (networkAt bs at) ≡ prefixStep.Took next p = prefix-tells (prefixStep.Took (after c prefixForm) (networkAt bs at)) x d ∙ took in
         let to : after c prefixForm ≡ next = cc in
         let is : networkAt bs at ≡ p = cc in
         let q = passed prefixForm (prefixExtra (i .s)) (prefixValues (i .s)) (drop at bs) hold in
@@ -379,37 +405,38 @@ module _ {bs : List ℕ} {c : Cursor} {k : Sofar} (i : Items bs c k) where
 
   -- ---- a route
   module _ (is : getD bs (c .at) 0 ≡ 5) where
-    abbrev routeStepOf : routeStep.the-data
-    routeStepOf = judged (routeNext k (drop at bs)) (λ f. routeStep.Refused f at) (λ _. routeStep.Took (after c routeForm) (routeAt bs at))
+    abbrev routeStepOf : Said
+    routeStepOf = judgedAt at (routeNext k (drop at bs)) (took (after c routeForm) (valuesAt routeForm bs at))
 
     abbrev routed : Snapshot
     routed = withPrefixes (i .s) (addRoute (i .s .prefixes) (routeOf (valuesAt routeForm bs at)))
 
-    route-cases : {G : Type 0} (x : routeStep.the-data) → x ≡ routeStepOf
-        → ((r : Refusal) → routeStep.Refused r at ≡ x → reading bs ≡ refused r at → G)
-        → (Holds (routeRecord (i .s) (drop at bs)) → routeStep.Took (after c routeForm) (routeAt bs at) ≡ x
+    route-cases : {G : Type 0} (x : Said) → x ≡ routeStepOf
+        → ((r : Refusal) → refuses r at ≡ x → reading bs ≡ refused r at → G)
+        → (Holds (routeRecord (i .s) (drop at bs)) → took (after c routeForm) (valuesAt routeForm bs at) ≡ x
         → reading bs ≡ items routed (at + size routeForm) (drop (at + size routeForm) bs) → G)
         → G
     route-cases x e f g =
-        judged-cases (routeRecord (i .s) (drop at bs)) (λ f. routeStep.Refused f at) (λ _. routeStep.Took (after c routeForm) (routeAt bs at))
+        judged-cases (routeRecord (i .s) (drop at bs)) (λ f. refuses f at) (λ _. took (after c routeForm) (valuesAt routeForm bs at))
         (λ r. refused r at) (λ _. items routed (at + size routeForm) (drop (at + size routeForm) bs))
-        x (ap (λ (l : List Check). judged l (λ f. routeStep.Refused f at) (λ _. routeStep.Took (after c routeForm) (routeAt bs at))) (route-told (i .tells) (drop at bs)) ∙ sym e)
+        x (ap (λ (l : List Check). judgedAt at l (took (after c routeForm) (valuesAt routeForm bs at))) (route-told (i .tells) (drop at bs)) ∙ sym e)
         (λ r d h. f r d (i .same ∙ items-one-route bs at (i .s) is ∙ h))
         (λ p d h. g p d (i .same ∙ items-one-route bs at (i .s) is ∙ h))
 
-    pub route-stop : {r : Refusal} {place : ℕ} → routeStep.Refused r place ≡ routeStepOf → read.Refused r place ≡ told (reading bs)
-    route-stop {r} {place} e =
-        route-cases (routeStep.Refused r place) e
-        (λ f d h. (let a : read.Refused r place ≡ read.Refused f at = cc in a) ∙ sym (ap told h))
-        (λ p d h. absurd (let z : _≡_ {A = ℕ} 0 1 = cc in omega arith))
+    pub route-stop : {x : RouteStep} {r : Refusal} {place : ℕ} → x ≡ routeStep.Refused r place → routeSaid x ≡ routeStepOf → read.Refused r place ≡ told (reading bs)
+    route-stop {x} {r} {place} is e =
+        route-cases (routeSaid x) e
+        (λ f d h. same-refusal read.Refused r f place at (sym (d ∙ ap routeSaid is)) ∙ sym (ap told h))
+        (λ p d h. absurd (gives-refuses r place _ (d ∙ ap routeSaid is)))
 
-    pub route-next : {next : Cursor} {r : Route} → routeStep.Took next r ≡ routeStepOf
+    pub route-next : {x : RouteStep} {next : Cursor} {r : Route} → x ≡ routeStep.Took next r → routeSaid x ≡ routeStepOf
         → (k .routes < mostRoutes) × (k .inside < mostInPrefix) × Items bs next (moreRoute k r) × (c .at < next .at) × (next .at ≤ length bs)
     unfolding routeRecord
-    route-next {next} {r} e =
-        route-cases (routeStep.Took next r) e
-        (λ f d h. absurd (let z : _≡_ {A = ℕ} 0 1 = cc in omega arith))
+    route-next {x} {next} {r} took e =
+        route-cases (routeSaid x) e
+        (λ f d h. absurd (gives-refuses f at _ (sym (d ∙ ap routeSaid took))))
         (λ hold d h.
+        let same : routeStep.Took (after c routeForm) (routeAt bs at) ≡ routeStep.Took next r = route-tells (routeStep.Took (after c routeForm) (routeAt bs at)) x d ∙ took in
         let to : after c routeForm ≡ next = cc in
         let is : routeAt bs at ≡ r = cc in
         let q = passed routeForm (routeExtra (i .s)) (routeValues (i .s)) (drop at bs) hold in
@@ -436,8 +463,8 @@ module _ {bs : List ℕ} {c : Cursor} {k : Sofar} (i : Items bs c k) where
 
   -- ---- the end
   module _ (no4 : getD bs (c .at) 0 ≢ 4) (no5 : getD bs (c .at) 0 ≢ 5) where
-    abbrev endStepOf : endStep.the-data
-    endStepOf = judged (endRecord (c .records) (drop at bs)) (λ f. endStep.Refused f at) (λ _. tailStep bs (at + 5))
+    abbrev endStepOf : Said
+    endStepOf = judgedAt at (endRecord (c .records) (drop at bs)) (ending bs (at + 5))
 
     last : reading bs ≡ unless (endRecord (c .records) (drop at bs)) at λ _. tail (i .s) (at + size endForm) (drop (at + size endForm) bs)
     last =
@@ -451,16 +478,19 @@ module _ {bs : List ℕ} {c : Cursor} {k : Sofar} (i : Items bs c k) where
         let d : k .routes ≡ routesIn (i .s .prefixes) = i .tells .routes in
         rw (a, b, d)
 
-    tail-answer : Dec (at + 5 < length bs) → answered k (tailStep bs (at + 5)) ≡ told (tail (i .s) (at + 5) (drop (at + 5) bs))
-    tail-answer (yes h) =
-        ap (λ (b : Bool). answered k (cond b (endStep.Refused Tail (at + 5)) endStep.Ended)) (lt-ltb (at + 5) (length bs) h) ∙ sym (ap told (tail-some bs (at + 5) (i .s) h))
-    tail-answer (no h) =
-        ap (λ (b : Bool). answered k (cond b (endStep.Refused Tail (at + 5)) endStep.Ended)) (le-ltb (at + 5) (length bs) (omega arith)) ∙ counts-told
-        ∙ sym (ap told (tail-none bs (at + 5) (i .s) (omega arith)))
+    module _ {x y : EndStep} (is : x ≡ y) where
+      tail-answer : Dec (at + 5 < length bs) → ending bs (at + 5) ≡ endSaid x → answered k x ≡ told (tail (i .s) (at + 5) (drop (at + 5) bs))
+      tail-answer (yes h) d =
+          ap (answered k) (end-tells x (endStep.Refused Tail (at + 5)) (sym d ∙ ap (λ (b : Bool). cond b (refuses Tail (at + 5)) (gives [])) (lt-ltb (at + 5) (length bs) h)))
+          ∙ sym (ap told (tail-some bs (at + 5) (i .s) h))
+      tail-answer (no h) d =
+          ap (answered k) (end-tells x endStep.Ended (sym d ∙ ap (λ (b : Bool). cond b (refuses Tail (at + 5)) (gives [])) (le-ltb (at + 5) (length bs) (omega arith))))
+          ∙ counts-told ∙ sym (ap told (tail-none bs (at + 5) (i .s) (omega arith)))
 
-    pub end-answer : answered k endStepOf ≡ told (reading bs)
-    end-answer =
-        judged-cases (endRecord (c .records) (drop at bs)) (λ f. endStep.Refused f at) (λ _. tailStep bs (at + 5))
-        (λ r. refused r at) (λ _. tail (i .s) (at + size endForm) (drop (at + size endForm) bs)) endStepOf refl
-        (λ r d h. sym (ap (answered k) d) ∙ sym (ap told (last ∙ h)))
-        (λ p d h. sym (ap (answered k) d) ∙ tail-answer (decLe (suc (at + 5)) (length bs)) ∙ sym (ap told (last ∙ h)))
+      pub end-answer : endSaid x ≡ endStepOf → answered k y ≡ told (reading bs)
+      end-answer e =
+          ap (answered k) (sym is)
+          ∙ judged-cases (endRecord (c .records) (drop at bs)) (λ f. refuses f at) (λ _. ending bs (at + 5))
+          (λ r. refused r at) (λ _. tail (i .s) (at + size endForm) (drop (at + size endForm) bs)) (endSaid x) (sym e)
+          (λ r d h. ap (answered k) (end-tells x (endStep.Refused r at) (sym d)) ∙ sym (ap told (last ∙ h)))
+          (λ p d h. tail-answer (decLe (suc (at + 5)) (length bs)) d ∙ sym (ap told (last ∙ h)))

@@ -7,7 +7,7 @@ ghost use lib.ListN.{getD, replicate};
 ghost use Rattle.snapshot.specs.Limits.{mostRouters, mostPrefixes, mostInPrefix, mostRoutes};
 ghost use Rattle.snapshot.specs.Format.{pairs};
 ghost use Rattle.snapshot.specs.Reading.{reading};
-ghost use Rattle.scan.specs.Scan.{told, Went, Routers, Distances, Rows, Items, morePrefix, moreRoute, Follows};
+ghost use Rattle.scan.specs.Scan.{said, saidOf, told, Went, Routers, Distances, Rows, Items, morePrefix, moreRoute, Follows};
 use cursor::Cursor;
 use cursor::EndStep;
 use cursor::Network;
@@ -206,7 +206,7 @@ fn items(c: Cursor, input: &[u8], k: Sofar) -> Read
 
 // Judges a whole input: the counts of the snapshot that it is, or the refusal that it earns.
 pub fn judge(input: &[u8]) -> Read
-    ensures { λ r. ⌜ r ≡ told (reading (now (input .entry))) ⌝ }
+    ensures { λ r. ⌜ said r ≡ saidOf (reading (now (input .entry))) ⌝ }
 {
     let begin = Cursor { at: 0, records: 0 };
     match begin.count(input) {

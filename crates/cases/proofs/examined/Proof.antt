@@ -34,7 +34,7 @@ returns c =
     let told : tie.After-compared = search needs in
     let done = done-of told in
     let a = begun done .args in
-    found-is (now (a .input)) _ (length (now (a .peer))) refl (done .read-snapshot .ensures .0) (told .compared .ensures)
+    found-is (now (a .input)) _ (done .read-snapshot .result) (length (now (a .peer))) refl (done .read-snapshot .ensures .0) (told .compared .ensures)
 
 same-length : tie.Need-same-length
 same-length c =

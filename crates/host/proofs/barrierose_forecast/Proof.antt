@@ -4,6 +4,7 @@ use denote.Ref.{now}
 use lib.Dec.{T}
 use lib.Pow.{areBytes}
 use borrow.Author.Needs.{needs}
+use Rattle.scan.specs.ScanLaws.{said-is}
 use Rattle.reader.specs.ReadLaws.{slice-bytes}
 use Rattle.host.specs.Host.{room}
 use Rattle.host.specs.HostLaws.{answers-as, answers-refused, answers-none, asked}
@@ -31,7 +32,7 @@ returns-2 c =
     let sound : tie.After-counts = search needs in
     let over : tie.Then2 = search needs in
     let code : tie.After-refused3 = search needs in
-    answers-as (code .refused3 .ensures) (answers-none (long .if1 .left) (sym (sound .counts .given .1) ∙ judged .judge .ensures) (over .if2 .taken))
+    answers-as (code .refused3 .ensures) (answers-none (long .if1 .left) (sym (sound .counts .given .1) ∙ said-is _ (judged .judge .ensures)) (over .if2 .taken))
 
 answer-requires : tie.Need-answer-requires
 answer-requires c κs =
@@ -39,7 +40,7 @@ answer-requires c κs =
     let judged : tie.After-judge = search needs in
     let sound : tie.After-counts = search needs in
     let under : tie.Else2 = search needs in
-    (asked (now (start long .args .snapshot)) (bytes long) (sym (sound .counts .given .1) ∙ judged .judge .ensures) (under .if2 .left), long .if1 .left)
+    (asked (now (start long .args .snapshot)) (bytes long) (sym (sound .counts .given .1) ∙ said-is _ (judged .judge .ensures)) (under .if2 .left), long .if1 .left)
 
 returns-3 : tie.Need-returns-3
 returns-3 c =
@@ -47,7 +48,7 @@ returns-3 c =
     let judged : tie.After-judge = search needs in
     let bad : tie.After-r = search needs in
     let code : tie.After-refused2 = search needs in
-    answers-as (code .refused2 .ensures) (answers-refused (long .if1 .left) (sym (bad .r .given .1) ∙ judged .judge .ensures))
+    answers-as (code .refused2 .ensures) (answers-refused (long .if1 .left) (sym (bad .r .given .1) ∙ said-is _ (judged .judge .ensures)))
 
 pub barrierose-forecast-spec : {M : Type 1} → statement M
 barrierose-forecast-spec =

@@ -1,6 +1,6 @@
 use mathlib.Core.Path.{ap, _∙_}
 use borrow.Author.Needs.{needs}
-use Rattle.measure.specs.Measure.{readNumber}
+use Rattle.refusal.specs.Numbers.{Said}
 use Rattle.measure.proofs.measure_read.Statement.{statement}
 use Rattle.measure.proofs.measure_read.Tie as tie
 
@@ -11,7 +11,7 @@ returns : tie.Need-returns
 returns c =
     let told : tie.After-read-number = search needs in
     let e = made told .read-snapshot .ensures in
-    record { tables = e .1; number = told .read-number .ensures ∙ ap readNumber (e .0) }
+    record { tables = e .1; number = told .read-number .ensures ∙ ap (λ (s : Said). s .number) (e .0) }
 
 pub measure-read-spec : {M : Type 1} → statement M
 measure-read-spec =

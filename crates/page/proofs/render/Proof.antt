@@ -44,7 +44,7 @@ returns-2 c =
     let done = done-of put in
     let d = done .read-snapshot .ensures in
     let a = begun done .args in
-    rendered-text (now (a .input)) (now (a .out)) (long done .if1 .left) (puts-as (put .put-read .ensures) (page-is (now (a .input)) _ refl (bytes done) _ _ (d .0) (d .1)))
+    rendered-text (now (a .input)) (now (a .out)) (long done .if1 .left) (puts-as (put .put-read .ensures) (page-is (now (a .input)) _ refl (bytes done) (done .read-snapshot .result) _ (d .0) (d .1)))
 
 pub render-spec : {M : Type 1} → statement M
 render-spec =

@@ -9,6 +9,7 @@ use Rattle.snapshot.specs.Ranges.{anyOf}
 use Rattle.snapshot.specs.RangesLaws.{none-any}
 use Rattle.snapshot.specs.TablesLaws.{has-room}
 use Rattle.snapshot.specs.Tables.{Tables, columns, tables, short}
+use Rattle.scan.specs.ScanLaws.{said-is}
 use Rattle.reader.specs.ReadLaws.{no-room, not-sound, sound, spanned, slice-bytes}
 use Rattle.reader.proofs.read_snapshot.Statement.{statement}
 use Rattle.reader.proofs.read_snapshot.Tie as tie
@@ -53,7 +54,7 @@ fill-tables-requires c κs =
     let j = judged k in
     let e = j .before in
     let a = looked e in
-    let q = spanned (now (start a .args .input)) (bytes a) (sym (k .counts .given .1) ∙ j .judge .ensures) in
+    let q = spanned (now (start a .args .input)) (bytes a) (sym (k .counts .given .1) ∙ said-is _ (j .judge .ensures)) in
     (q .0, q .1, has-room (lent (start a)) (none-any (short (lent (start a))) (roomy e)))
 
 returns-2 : tie.Need-returns-2
@@ -61,7 +62,7 @@ returns-2 c =
     let j : tie.After-judge = search needs in
     let e = j .before in
     let a = looked e in
-    not-sound (now (start a .args .input)) (lent (start a)) (roomy e) (sym (c .before .r .given .1) ∙ j .judge .ensures)
+    not-sound (now (start a .args .input)) (lent (start a)) (roomy e) (sym (c .before .r .given .1) ∙ said-is _ (j .judge .ensures))
 
 returns-3 : tie.Need-returns-3
 returns-3 c =
@@ -70,7 +71,7 @@ returns-3 c =
     let j = judged k in
     let e = j .before in
     let a = looked e in
-    sound (now (start a .args .input)) (lent (start a)) (roomy e) (bytes a) (sym (k .counts .given .1) ∙ j .judge .ensures) (f .fill-tables .ensures)
+    sound (now (start a .args .input)) (lent (start a)) (roomy e) (bytes a) (sym (k .counts .given .1) ∙ said-is _ (j .judge .ensures)) (f .fill-tables .ensures)
 
 pub read-snapshot-spec : {M : Type 1} → statement M
 read-snapshot-spec =

@@ -1,7 +1,5 @@
 -- `finish` meets its contract. Assumes nothing.
 use borrow.Author.Needs.{needs}
-use mathlib.Core.Path.{sym, ap, _∙_}
-use Rattle.scan.specs.Scan.{answered}
 use Rattle.scan.specs.ScanLaws.{end-answer}
 use Rattle.scan.proofs.finish.Statement.{statement}
 use Rattle.scan.proofs.finish.Tie as tie
@@ -16,8 +14,8 @@ finish-spec =
     (λ c.
     let s : tie.Start = search needs in
     let e : tie.After-end = search needs in
-    ap (answered (s .args .k)) (sym (c .before .r .given .1) ∙ e .end .ensures) ∙ end-answer (s .pre .0) (s .pre .1) (s .pre .2))
+    end-answer (s .pre .0) (s .pre .1) (s .pre .2) (c .before .r .given .1) (e .end .ensures))
     (λ c.
     let s : tie.Start = search needs in
     let e : tie.After-end = search needs in
-    ap (answered (s .args .k)) (sym (c .enum-told .given .1) ∙ e .end .ensures) ∙ end-answer (s .pre .0) (s .pre .1) (s .pre .2)))
+    end-answer (s .pre .0) (s .pre .1) (s .pre .2) (c .enum-told .given .1) (e .end .ensures)))

@@ -33,32 +33,32 @@ one-item-spec =
     (λ c κs.
     let s : tie.Start = search needs in
     let m : tie.After-prefix = search needs in
-    prefix-next (s .pre) (four (search needs)) (sym (c .before .next .given .1) ∙ m .prefix .ensures) .0)
+    prefix-next (s .pre) (four (search needs)) (c .before .next .given .1) (m .prefix .ensures) .0)
     (λ c κs. search needs)
     (λ c. search needs)
     (λ c. search needs)
     (λ c κs.
     let s : tie.Start = search needs in
     let m : tie.After-route = search needs in
-    let n = route-next (s .pre) (five (search needs)) (sym (c .before .next2 .given .1) ∙ m .route .ensures) in
+    let n = route-next (s .pre) (five (search needs)) (c .before .next2 .given .1) (m .route .ensures) in
     (n .0, n .1))
     (λ c κs. search needs)
     (λ c.
     let s : tie.Start = search needs in
     let m : tie.After-prefix = search needs in
-    prefix-stop (s .pre) (four (search needs)) (sym (c .before .r .given .1) ∙ m .prefix .ensures))
+    prefix-stop (s .pre) (four (search needs)) (c .before .r .given .1) (m .prefix .ensures))
     (λ c.
     let s : tie.Start = search needs in
     let m : tie.After-prefix = search needs in
-    let n = prefix-next (s .pre) (four (search needs)) (sym (c .before .before .next .given .1) ∙ m .prefix .ensures) in
+    let n = prefix-next (s .pre) (four (search needs)) (c .before .before .next .given .1) (m .prefix .ensures) in
     (subst (Items (now (s .args .input)) (c .before .before .next .given .0 .0)) (sym (c .with-prefix .ensures)) (n .1), n .2, n .3))
     (λ c.
     let s : tie.Start = search needs in
     let m : tie.After-route = search needs in
-    route-stop (s .pre) (five (search needs)) (sym (c .before .r2 .given .1) ∙ m .route .ensures))
+    route-stop (s .pre) (five (search needs)) (c .before .r2 .given .1) (m .route .ensures))
     (λ c.
     let s : tie.Start = search needs in
     let m : tie.After-route = search needs in
-    let n = route-next (s .pre) (five (search needs)) (sym (c .before .before .next2 .given .1) ∙ m .route .ensures) in
+    let n = route-next (s .pre) (five (search needs)) (c .before .before .next2 .given .1) (m .route .ensures) in
     (subst (Items (now (s .args .input)) (c .before .before .next2 .given .0 .0)) (sym (c .with-route .ensures)) (n .2), n .3, n .4))
     (λ c. search needs))

@@ -1,7 +1,7 @@
 -- `routers_into` meets its contract: by `Routers`, a law a turn. Assumes nothing.
 use borrow.Author.Needs.{needs}
 use native.Mathlib.Omega.{arith}
-use mathlib.Core.Path.{_≡_, refl, sym, _∙_}
+use mathlib.Core.Path.{_≡_, refl}
 use Prim.Native.Nat.{_-_}
 use lib.ListN.{length, length-set}
 use Rattle.scan.specs.Scan.{Routers}
@@ -28,7 +28,7 @@ routers-into-spec =
     (λ c.
     let l : tie.In-loop Inv-loop μ-loop = search needs in
     let t : tie.After-router Inv-loop μ-loop = search needs in
-    routers-stop (l .before .loop .inv .0) (l .loop-test .taken) (sym (c .before .r .given .1) ∙ t .router .ensures))
+    routers-stop (l .before .loop .inv .0) (l .loop-test .taken) (c .before .r .given .1) (t .router .ensures))
     (λ c. search needs)
     (λ c. search needs)
     (λ c. omega arith)
@@ -37,6 +37,6 @@ routers-into-spec =
     (λ c.
     let l : tie.In-loop Inv-loop μ-loop = search needs in
     let t : tie.After-router Inv-loop μ-loop = search needs in
-    (routers-next (l .before .loop .inv .0) (l .loop-test .taken) (sym (c .before .next .given .1) ∙ t .router .ensures), simp length-set (l .before .loop .inv .1)))
+    (routers-next (l .before .loop .inv .0) (l .loop-test .taken) (c .before .next .given .1) (t .router .ensures), simp length-set (l .before .loop .inv .1)))
     (λ c. omega arith)
     (λ c. routers-end (c .before .loop .inv .0) (c .loop-test .left)))

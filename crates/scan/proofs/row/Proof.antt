@@ -1,7 +1,6 @@
 -- `row` meets its contract: by `Row`, a law a turn. Assumes nothing.
 use borrow.Author.Needs.{needs}
 use native.Mathlib.Omega.{arith}
-use mathlib.Core.Path.{sym, _∙_}
 use Prim.Native.Nat.{_-_}
 use Rattle.scan.specs.Scan.{Row}
 use Rattle.scan.specs.ScanLaws.{row-start, row-skip, row-stop, row-next, row-end}
@@ -30,12 +29,12 @@ row-spec =
     let l : tie.In-loop Inv-loop μ-loop = search needs in
     let o : tie.Else1 Inv-loop μ-loop = search needs in
     let t : tie.After-distance Inv-loop μ-loop = search needs in
-    row-stop (l .before .loop .inv) (l .loop-test .taken) (o .if1 .left) (sym (c .before .r .given .1) ∙ t .distance .ensures))
+    row-stop (l .before .loop .inv) (l .loop-test .taken) (o .if1 .left) (c .before .r .given .1) (t .distance .ensures))
     (λ c. search needs)
     (λ c. omega arith)
     (λ c.
     let l : tie.In-loop Inv-loop μ-loop = search needs in
     let o : tie.Else1 Inv-loop μ-loop = search needs in
     let t : tie.After-distance Inv-loop μ-loop = search needs in
-    row-next (l .before .loop .inv) (l .loop-test .taken) (o .if1 .left) (sym (c .before .next .given .1) ∙ t .distance .ensures))
+    row-next (l .before .loop .inv) (l .loop-test .taken) (o .if1 .left) (c .before .next .given .1) (t .distance .ensures))
     (λ c. row-end (c .before .loop .inv) (c .loop-test .left)))

@@ -5,16 +5,18 @@ use denote.Ref.{now}
 use mathlib.Core.Path.{_≡_, refl, sym, ap, _∙_}
 use Prim.Native.Nat.{ℕ, _+_, _<_}
 use mathlib.Core.Bool.{false}
-use lib.ListN.{length, getD}
+use lib.ListN.{length}
+use Rattle.refusal.specs.Numbers.{refuses}
+use Rattle.cursor.specs.declared.Cursor.{Cursor}
 use Rattle.cursor.specs.declared.Finding.the-variants.{Clear}
-use Rattle.cursor.specs.declared.Step.the-variants.{Took, Refused}
+use Rattle.cursor.specs.declared.Step.the-variants.{Took}
 use Rattle.cursor.specs.StepsLaws.{opened, at-opening, at-values, at-end, no-extra}
 use mathlib.Core.Path.{ap₂}
 use mathlib.Core.List.{[]}
 use Rattle.snapshot.specs.Records.{countForm, valuesAt}
 use Rattle.snapshot.specs.Format.{countChecks}
 use Rattle.snapshot.specs.Reading.{countValues, countRecord}
-use Rattle.cursor.specs.Steps.{finding, bodyLength, openingChecks, after}
+use Rattle.cursor.specs.Steps.{finding, bodyLength, openingChecks, after, took, stepSaid}
 use Rattle.cursor.proofs.Cursor.count.Statement.{statement}
 use Rattle.cursor.proofs.Cursor.count.Tie as tie
 
@@ -46,7 +48,7 @@ count-spec =
     let o : tie.After-opening = search needs in
     let bs = now (s .args .input) in
     let at = s .args .self .at in
-    at-opening bs at countForm ([]) (false) (false) (countValues) (λ f. Refused f at) (λ _. Took (after (s .args .self) countForm) (getD (valuesAt countForm bs at) 0 0)) refl (no-extra _) (sym (c .before .f .given .1) ∙ o .opening .ensures))
+    at-opening bs at countForm ([]) (false) (false) (countValues) (λ f. refuses f at) (λ _. took (after (s .args .self) countForm) (valuesAt countForm bs at)) refl (no-extra _) (sym (c .before .f .given .1) ∙ o .opening .ensures))
     (λ c.
     let s : tie.Start = search needs in
     let o : tie.After-opening = search needs in
@@ -54,7 +56,7 @@ count-spec =
     let at = s .args .self .at in
     let v : tie.After-count-faults = search needs in
     let g : tie.After-get8 = search needs in
-    at-values bs at countForm ([]) (false) (false) (countValues) (λ f. Refused f at) (λ _. Took (after (s .args .self) countForm) (getD (valuesAt countForm bs at) 0 0)) refl (no-extra _) (clear (search needs)) (sym (c .before .f2 .given .1) ∙ v .count-faults .ensures ∙ ap (λ (n : ℕ). finding (countChecks n)) (g .get8 .ensures)))
+    at-values bs at countForm ([]) (false) (false) (countValues) (λ f. refuses f at) (λ _. took (after (s .args .self) countForm) (valuesAt countForm bs at)) refl (no-extra _) (clear (search needs)) (sym (c .before .f2 .given .1) ∙ v .count-faults .ensures ∙ ap (λ (n : ℕ). finding (countChecks n)) (g .get8 .ensures)))
     (λ c.
     let s : tie.Start = search needs in
     let o : tie.After-opening = search needs in
@@ -63,4 +65,4 @@ count-spec =
     let v : tie.After-count-faults = search needs in
     let g : tie.After-get8 = search needs in
     let e : tie.After-enum-told2 = search needs in
-    ap₂ Took (c .past .ensures) (g .get8 .ensures) ∙ at-end bs at countForm ([]) (false) (false) (countValues) (λ f. Refused f at) (λ _. Took (after (s .args .self) countForm) (getD (valuesAt countForm bs at) 0 0)) refl (no-extra _) (clear (search needs)) (sym (e .enum-told2 .given .1) ∙ v .count-faults .ensures ∙ ap (λ (n : ℕ). finding (countChecks n)) (g .get8 .ensures))))
+    ap₂ (λ (c : Cursor) (n : ℕ). stepSaid (Took c n)) (c .past .ensures) (g .get8 .ensures) ∙ at-end bs at countForm ([]) (false) (false) (countValues) (λ f. refuses f at) (λ _. took (after (s .args .self) countForm) (valuesAt countForm bs at)) refl (no-extra _) (clear (search needs)) (sym (e .enum-told2 .given .1) ∙ v .count-faults .ensures ∙ ap (λ (n : ℕ). finding (countChecks n)) (g .get8 .ensures))))

@@ -7,17 +7,16 @@ use Prim.Native.Nat.{ℕ, _+_, _<_}
 use mathlib.Core.Bool.{false}
 use lib.ListN.{length}
 use Rattle.cursor.specs.declared.Finding.the-variants.{Clear}
-use Rattle.cursor.specs.declared.EndStep.the-variants.{Refused}
 use Rattle.cursor.specs.StepsLaws.{opened, at-opening, at-values, at-end, no-extra}
 use mathlib.Core.Bool.{Bool, cond}
 use mathlib.Core.List.{[]}
 use borrow.Author.Tests.{lt-ltb, le-ltb}
 use Rattle.refusal.specs.declared.Refusal.the-variants.{Tail}
+use Rattle.refusal.specs.Numbers.{refuses, gives}
 use Rattle.snapshot.specs.Records.{endForm}
 use Rattle.snapshot.specs.Format.{endChecks}
 use Rattle.snapshot.specs.Reading.{endValues, endRecord}
-use Rattle.cursor.specs.declared.EndStep.the-variants.{Ended}
-use Rattle.cursor.specs.Steps.{finding, bodyLength, openingChecks, tailStep}
+use Rattle.cursor.specs.Steps.{finding, bodyLength, openingChecks, ending}
 use Rattle.cursor.proofs.Cursor.end.Statement.{statement}
 use Rattle.cursor.proofs.Cursor.end.Tie as tie
 
@@ -52,14 +51,14 @@ end-spec =
     let v : tie.After-end-faults = search needs in
     let g : tie.After-get32 = search needs in
     let e : tie.After-enum-told2 = search needs in
-    let t : tailStep bs (at + 5) ≡ Refused Tail (at + 5) = ap (λ (b : Bool). cond b (Refused Tail (at + 5)) Ended) (lt-ltb (at + 5) (length bs) (search needs)) in
-    sym t ∙ at-end bs at endForm ([]) (false) (false) (endValues (s .args .self .records)) (λ f. Refused f at) (λ _. tailStep bs (at + 5)) refl (no-extra _) (clear (search needs)) (sym (e .enum-told2 .given .1) ∙ v .end-faults .ensures ∙ ap (λ (n : ℕ). finding (endChecks (s .args .self .records) n)) (g .get32 .ensures)))
+    let t : ending bs (at + 5) ≡ refuses Tail (at + 5) = ap (λ (b : Bool). cond b (refuses Tail (at + 5)) (gives [])) (lt-ltb (at + 5) (length bs) (search needs)) in
+    sym t ∙ at-end bs at endForm ([]) (false) (false) (endValues (s .args .self .records)) (λ f. refuses f at) (λ _. ending bs (at + 5)) refl (no-extra _) (clear (search needs)) (sym (e .enum-told2 .given .1) ∙ v .end-faults .ensures ∙ ap (λ (n : ℕ). finding (endChecks (s .args .self .records) n)) (g .get32 .ensures)))
     (λ c.
     let s : tie.Start = search needs in
     let o : tie.After-opening = search needs in
     let bs = now (s .args .input) in
     let at = s .args .self .at in
-    at-opening bs at endForm ([]) (false) (false) (endValues (s .args .self .records)) (λ f. Refused f at) (λ _. tailStep bs (at + 5)) refl (no-extra _) (sym (c .before .f .given .1) ∙ o .opening .ensures))
+    at-opening bs at endForm ([]) (false) (false) (endValues (s .args .self .records)) (λ f. refuses f at) (λ _. ending bs (at + 5)) refl (no-extra _) (sym (c .before .f .given .1) ∙ o .opening .ensures))
     (λ c.
     let s : tie.Start = search needs in
     let o : tie.After-opening = search needs in
@@ -67,7 +66,7 @@ end-spec =
     let at = s .args .self .at in
     let v : tie.After-end-faults = search needs in
     let g : tie.After-get32 = search needs in
-    at-values bs at endForm ([]) (false) (false) (endValues (s .args .self .records)) (λ f. Refused f at) (λ _. tailStep bs (at + 5)) refl (no-extra _) (clear (search needs)) (sym (c .before .f2 .given .1) ∙ v .end-faults .ensures ∙ ap (λ (n : ℕ). finding (endChecks (s .args .self .records) n)) (g .get32 .ensures)))
+    at-values bs at endForm ([]) (false) (false) (endValues (s .args .self .records)) (λ f. refuses f at) (λ _. ending bs (at + 5)) refl (no-extra _) (clear (search needs)) (sym (c .before .f2 .given .1) ∙ v .end-faults .ensures ∙ ap (λ (n : ℕ). finding (endChecks (s .args .self .records) n)) (g .get32 .ensures)))
     (λ c.
     let s : tie.Start = search needs in
     let o : tie.After-opening = search needs in
@@ -76,5 +75,5 @@ end-spec =
     let v : tie.After-end-faults = search needs in
     let g : tie.After-get32 = search needs in
     let e : tie.After-enum-told2 = search needs in
-    let t : tailStep bs (at + 5) ≡ Ended = ap (λ (b : Bool). cond b (Refused Tail (at + 5)) Ended) (le-ltb (at + 5) (length bs) (search needs)) in
-    sym t ∙ at-end bs at endForm ([]) (false) (false) (endValues (s .args .self .records)) (λ f. Refused f at) (λ _. tailStep bs (at + 5)) refl (no-extra _) (clear (search needs)) (sym (e .enum-told2 .given .1) ∙ v .end-faults .ensures ∙ ap (λ (n : ℕ). finding (endChecks (s .args .self .records) n)) (g .get32 .ensures))))
+    let t : ending bs (at + 5) ≡ gives [] = ap (λ (b : Bool). cond b (refuses Tail (at + 5)) (gives [])) (le-ltb (at + 5) (length bs) (search needs)) in
+    sym t ∙ at-end bs at endForm ([]) (false) (false) (endValues (s .args .self .records)) (λ f. refuses f at) (λ _. ending bs (at + 5)) refl (no-extra _) (clear (search needs)) (sym (e .enum-told2 .given .1) ∙ v .end-faults .ensures ∙ ap (λ (n : ℕ). finding (endChecks (s .args .self .records) n)) (g .get32 .ensures))))

@@ -5,8 +5,10 @@ use denote.Ref.{now}
 use mathlib.Core.Path.{_≡_, refl, sym, ap, _∙_}
 use Prim.Native.Nat.{_+_, _<_}
 use lib.ListN.{length}
+use Rattle.refusal.specs.Numbers.{refuses}
+use Rattle.cursor.specs.declared.Cursor.{Cursor}
 use Rattle.cursor.specs.declared.Finding.the-variants.{Clear}
-use Rattle.cursor.specs.declared.RouteStep.the-variants.{Took, Refused}
+use Rattle.cursor.specs.declared.RouteStep.the-variants.{Took}
 use Rattle.cursor.specs.StepsLaws.{opened, at-opening, at-values, at-end}
 use mathlib.Core.Path.{ap₂}
 use mathlib.Core.Bool.{_||_}
@@ -14,9 +16,9 @@ use lib.Dec.{eqb, leb}
 use Rattle.snapshot.specs.declared.Route.{Route}
 use Rattle.snapshot.specs.Plain.{routeIs}
 use Rattle.snapshot.specs.Limits.{mostInPrefix, mostRoutes}
-use Rattle.snapshot.specs.Records.{routeForm}
+use Rattle.snapshot.specs.Records.{routeForm, valuesAt}
 use Rattle.snapshot.specs.Reading.{routeOf, routeRoom}
-use Rattle.cursor.specs.Steps.{finding, bodyLength, openingChecks, after, routeFaults, routeNext, routeAt}
+use Rattle.cursor.specs.Steps.{finding, bodyLength, openingChecks, after, routeFaults, routeNext, took, routeSaid}
 use Rattle.cursor.specs.StepsLaws.{route-room}
 use Rattle.cursor.proofs.Cursor.route.Statement.{statement}
 use Rattle.cursor.proofs.Cursor.route.Tie as tie
@@ -49,7 +51,7 @@ route-spec =
     let bs = now (s .args .input) in
     let at = s .args .self .at in
     let k = s .args .k in
-    at-opening bs at routeForm (routeRoom (k .prefixes) (k .inside) (k .routes)) (eqb (k .prefixes) 0) (leb mostInPrefix (k .inside) || leb mostRoutes (k .routes)) (λ v. routeFaults k (routeOf v)) (λ f. Refused f at) (λ _. Took (after (s .args .self) routeForm) (routeAt bs at)) refl (route-room k _) (sym (c .before .f .given .1) ∙ o .opening .ensures))
+    at-opening bs at routeForm (routeRoom (k .prefixes) (k .inside) (k .routes)) (eqb (k .prefixes) 0) (leb mostInPrefix (k .inside) || leb mostRoutes (k .routes)) (λ v. routeFaults k (routeOf v)) (λ f. refuses f at) (λ _. took (after (s .args .self) routeForm) (valuesAt routeForm bs at)) refl (route-room k _) (sym (c .before .f .given .1) ∙ o .opening .ensures))
     (λ c.
     let s : tie.Start = search needs in
     let o : tie.After-opening = search needs in
@@ -58,7 +60,7 @@ route-spec =
     let v : tie.After-route-faults = search needs in
     let g : tie.After-route-at = search needs in
     let k = s .args .k in
-    at-values bs at routeForm (routeRoom (k .prefixes) (k .inside) (k .routes)) (eqb (k .prefixes) 0) (leb mostInPrefix (k .inside) || leb mostRoutes (k .routes)) (λ v. routeFaults k (routeOf v)) (λ f. Refused f at) (λ _. Took (after (s .args .self) routeForm) (routeAt bs at)) refl (route-room k _) (clear (search needs)) (sym (c .before .f2 .given .1) ∙ v .route-faults .ensures ∙ ap (λ (r : Route). finding (routeFaults k (routeIs r))) (g .route-at .ensures)))
+    at-values bs at routeForm (routeRoom (k .prefixes) (k .inside) (k .routes)) (eqb (k .prefixes) 0) (leb mostInPrefix (k .inside) || leb mostRoutes (k .routes)) (λ v. routeFaults k (routeOf v)) (λ f. refuses f at) (λ _. took (after (s .args .self) routeForm) (valuesAt routeForm bs at)) refl (route-room k _) (clear (search needs)) (sym (c .before .f2 .given .1) ∙ v .route-faults .ensures ∙ ap (λ (r : Route). finding (routeFaults k (routeIs r))) (g .route-at .ensures)))
     (λ c.
     let s : tie.Start = search needs in
     let o : tie.After-opening = search needs in
@@ -68,4 +70,4 @@ route-spec =
     let g : tie.After-route-at = search needs in
     let e : tie.After-enum-told2 = search needs in
     let k = s .args .k in
-    ap₂ Took (c .past .ensures) (g .route-at .ensures) ∙ at-end bs at routeForm (routeRoom (k .prefixes) (k .inside) (k .routes)) (eqb (k .prefixes) 0) (leb mostInPrefix (k .inside) || leb mostRoutes (k .routes)) (λ v. routeFaults k (routeOf v)) (λ f. Refused f at) (λ _. Took (after (s .args .self) routeForm) (routeAt bs at)) refl (route-room k _) (clear (search needs)) (sym (e .enum-told2 .given .1) ∙ v .route-faults .ensures ∙ ap (λ (r : Route). finding (routeFaults k (routeIs r))) (g .route-at .ensures))))
+    ap₂ (λ (c : Cursor) (r : Route). routeSaid (Took c r)) (c .past .ensures) (g .route-at .ensures) ∙ at-end bs at routeForm (routeRoom (k .prefixes) (k .inside) (k .routes)) (eqb (k .prefixes) 0) (leb mostInPrefix (k .inside) || leb mostRoutes (k .routes)) (λ v. routeFaults k (routeOf v)) (λ f. refuses f at) (λ _. took (after (s .args .self) routeForm) (valuesAt routeForm bs at)) refl (route-room k _) (clear (search needs)) (sym (e .enum-told2 .given .1) ∙ v .route-faults .ensures ∙ ap (λ (r : Route). finding (routeFaults k (routeIs r))) (g .route-at .ensures))))

@@ -6,16 +6,18 @@ use mathlib.Core.Path.{_≡_, refl, sym, _∙_}
 use Prim.Native.Nat.{ℕ, _+_, _<_}
 use mathlib.Core.Bool.{false}
 use lib.ListN.{length, getD}
+use Rattle.refusal.specs.Numbers.{refuses}
+use Rattle.cursor.specs.declared.Cursor.{Cursor}
 use Rattle.cursor.specs.declared.Finding.the-variants.{Clear}
-use Rattle.cursor.specs.declared.Step.the-variants.{Took, Refused}
+use Rattle.cursor.specs.declared.Step.the-variants.{Took}
 use Rattle.cursor.specs.StepsLaws.{opened, at-opening, at-values, at-end, no-extra}
 use mathlib.Core.Path.{ap₂}
-use mathlib.Core.List.{[]}
+use mathlib.Core.List.{[], _∷_}
 use lib.ListN.{take}
 use Rattle.snapshot.specs.Records.{routerForm, valuesAt}
 use Rattle.snapshot.specs.Format.{routerChecks}
 use Rattle.snapshot.specs.Reading.{routerValues, routerRecord}
-use Rattle.cursor.specs.Steps.{finding, bodyLength, openingChecks, after}
+use Rattle.cursor.specs.Steps.{finding, bodyLength, openingChecks, after, took, stepSaid}
 use Rattle.cursor.proofs.Cursor.router.Statement.{statement}
 use Rattle.cursor.proofs.Cursor.router.Tie as tie
 
@@ -49,7 +51,7 @@ router-spec =
     let o : tie.After-opening = search needs in
     let bs = now (s .args .input) in
     let at = s .args .self .at in
-    at-opening bs at routerForm ([]) (false) (false) (routerValues (s .args .routers) (take (s .args .given) (now (s .args .ids)))) (λ f. Refused f at) (λ _. Took (after (s .args .self) routerForm) (getD (valuesAt routerForm bs at) 1 0)) refl (no-extra _) (sym (c .before .f .given .1) ∙ o .opening .ensures))
+    at-opening bs at routerForm ([]) (false) (false) (routerValues (s .args .routers) (take (s .args .given) (now (s .args .ids)))) (λ f. refuses f at) (λ _. took (after (s .args .self) routerForm) (getD (valuesAt routerForm bs at) 1 0 ∷ [])) refl (no-extra _) (sym (c .before .f .given .1) ∙ o .opening .ensures))
     (λ c.
     let s : tie.Start = search needs in
     let o : tie.After-opening = search needs in
@@ -58,7 +60,7 @@ router-spec =
     let v : tie.After-router-faults = search needs in
     let g : tie.After-get32 = search needs in
     let h : tie.After-get8 = search needs in
-    at-values bs at routerForm ([]) (false) (false) (routerValues (s .args .routers) (take (s .args .given) (now (s .args .ids)))) (λ f. Refused f at) (λ _. Took (after (s .args .self) routerForm) (getD (valuesAt routerForm bs at) 1 0)) refl (no-extra _) (clear (search needs)) (sym (c .before .f2 .given .1) ∙ v .router-faults .ensures ∙ ap₂ (λ (i id : ℕ). finding (routerChecks (s .args .routers) (take (s .args .given) (now (s .args .ids))) i id)) (h .get8 .ensures) (g .get32 .ensures)))
+    at-values bs at routerForm ([]) (false) (false) (routerValues (s .args .routers) (take (s .args .given) (now (s .args .ids)))) (λ f. refuses f at) (λ _. took (after (s .args .self) routerForm) (getD (valuesAt routerForm bs at) 1 0 ∷ [])) refl (no-extra _) (clear (search needs)) (sym (c .before .f2 .given .1) ∙ v .router-faults .ensures ∙ ap₂ (λ (i id : ℕ). finding (routerChecks (s .args .routers) (take (s .args .given) (now (s .args .ids))) i id)) (h .get8 .ensures) (g .get32 .ensures)))
     (λ c.
     let s : tie.Start = search needs in
     let o : tie.After-opening = search needs in
@@ -68,4 +70,4 @@ router-spec =
     let g : tie.After-get32 = search needs in
     let h : tie.After-get8 = search needs in
     let e : tie.After-enum-told2 = search needs in
-    ap₂ Took (c .past .ensures) (g .get32 .ensures) ∙ at-end bs at routerForm ([]) (false) (false) (routerValues (s .args .routers) (take (s .args .given) (now (s .args .ids)))) (λ f. Refused f at) (λ _. Took (after (s .args .self) routerForm) (getD (valuesAt routerForm bs at) 1 0)) refl (no-extra _) (clear (search needs)) (sym (e .enum-told2 .given .1) ∙ v .router-faults .ensures ∙ ap₂ (λ (i id : ℕ). finding (routerChecks (s .args .routers) (take (s .args .given) (now (s .args .ids))) i id)) (h .get8 .ensures) (g .get32 .ensures))))
+    ap₂ (λ (c : Cursor) (n : ℕ). stepSaid (Took c n)) (c .past .ensures) (g .get32 .ensures) ∙ at-end bs at routerForm ([]) (false) (false) (routerValues (s .args .routers) (take (s .args .given) (now (s .args .ids)))) (λ f. refuses f at) (λ _. took (after (s .args .self) routerForm) (getD (valuesAt routerForm bs at) 1 0 ∷ [])) refl (no-extra _) (clear (search needs)) (sym (e .enum-told2 .given .1) ∙ v .router-faults .ensures ∙ ap₂ (λ (i id : ℕ). finding (routerChecks (s .args .routers) (take (s .args .given) (now (s .args .ids))) i id)) (h .get8 .ensures) (g .get32 .ensures))))
