@@ -1,2 +1,3 @@
 pub mod Outlook
 pub mod OutlookLaws
+pub mod Theorems

@@ -10,7 +10,7 @@ ghost use Rattle.model.specs.Lent.{was, is};
 ghost use Rattle.snapshot.specs.Limits.{mostRoutes};
 ghost use Rattle.snapshot.specs.Tables.{tables, columns as rowColumns};
 ghost use Rattle.model.specs.Rows.{start};
-ghost use Rattle.outlook.specs.Outlook.{cut, Decided, Part, Shown, Forecasts};
+ghost use Rattle.outlook.specs.Outlook.{cut, Decided, Part, Shown, said, Forecasts};
 
 // The routers whose early and late rows differ: bit r for router r, and how many there are.
 pub struct Differing {
@@ -135,7 +135,7 @@ pub fn forecast(
     early: &mut [u16],
     late: &mut [u16],
 ) -> Outlook
-    ensures { λ r. ⌜ Forecasts counts (tables (was ids) (was distances) (was address) (was bits) (was routes) (rowColumns (was router) (was asn) (was preference) (was path) (was origin) (was mark) (was med) (was nid) (was peer))) prefix (was early) (was late) r (is early) (is late) ⌝ }
+    ensures { λ r. ⌜ Forecasts counts (tables (was ids) (was distances) (was address) (was bits) (was routes) (rowColumns (was router) (was asn) (was preference) (was path) (was origin) (was mark) (was med) (was nid) (was peer))) prefix (was early) (was late) (said r) (is early) (is late) ⌝ }
 {
     let most = snapshot::MOST_ROUTERS as usize;
     if (early.len() < most) | (late.len() < most) {
