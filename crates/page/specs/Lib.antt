@@ -1,3 +1,4 @@
 pub mod Page
 pub mod PageLaws
 pub mod RenderLaws
+pub mod Theorems

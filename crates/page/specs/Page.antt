@@ -3,10 +3,10 @@ use Prim.Native.Nat.{ℕ, _+_, _*_, _≤_, _<_}
 use mathlib.Core.Path.{_≡_}
 use mathlib.Core.Logic.{_⊎_}
 use mathlib.Core.Bool.{not}
-use mathlib.Core.List.{List, _++_, map}
+use mathlib.Core.List.{List, [], _∷_, _++_, map}
 use lib.Dec.{eqb}
 use lib.ListN.{length, getD, replicate}
-use Rattle.refusal.specs.Numbers.{numberOf}
+use Rattle.refusal.specs.Numbers.{numberOf, Said, refuses, gives}
 use Rattle.model.specs.Rows.{span, column, start}
 use Rattle.model.specs.Columns.{Columns, lentMesh}
 use Rattle.model.specs.Decision.{Mesh, none}
@@ -70,12 +70,17 @@ answerText (refused r at) = refusedLine (numberOf r) at
 unfoldable pub page : List ℕ → List ℕ
 page bs = answerText (reading bs)
 
+-- an answer in document 01's numbers
+abbrev pub said : Rendered → Said
+said (Text n) = gives (n ∷ [])
+said (Refused r at) = refuses r at
+
 -- what rendering these bytes into a buffer answers, and what the buffer holds afterwards
-pub data Renders (bs out : List ℕ) : Rendered → List ℕ → Type 0 where
+pub data Renders (bs out : List ℕ) : Said → List ℕ → Type 0 where
   -- not every page would fit
-  room : length out < widestPage → Renders bs out (Refused Room 0) out
+  room : length out < widestPage → Renders bs out (refuses Room 0) out
   -- the page stands at the start, all other bytes are as before
-  text : widestPage ≤ length out → Renders bs out (Text (length (page bs))) (sets out 0 (page bs))
+  text : widestPage ≤ length out → Renders bs out (gives (length (page bs) ∷ [])) (sets out 0 (page bs))
 
 -- ---- what the code knows of lent tables
 

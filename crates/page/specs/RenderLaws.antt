@@ -32,9 +32,8 @@ use Rattle.reader.specs.Read.{readAnswer, readTables}
 use Rattle.reader.specs.ReadLaws.{was-refused, was-accepted, tables-left}
 use Rattle.lines.specs.Lines.{widest, headingLine}
 use Rattle.text.specs.Text.{each, Puts}
-use Rattle.page.specs.declared.Rendered.{Rendered}
 use Rattle.page.specs.declared.Rendered.the-variants.{Text}
-use Rattle.page.specs.Page.{block, decidedText, prefixOf, snapshotText, answerText, page, widestBlock, widestPage, lentText, blank, Blocks, lentPage, Ready, Renders, room, text}
+use Rattle.page.specs.Page.{block, decidedText, prefixOf, snapshotText, answerText, page, widestBlock, widestPage, lentText, blank, Blocks, lentPage, Ready, said, Renders, text}
 
 -- texts that agree for each number of a list
 each-same : (f g : ℕ → List ℕ) (rs : List ℕ) → ((r : ℕ) → In r rs → f r ≡ g r) → each f rs ≡ each g rs
@@ -154,14 +153,7 @@ page-room {prefixes} few l =
     let k : widestBlock * prefixes ≤ widestBlock * mostPrefixes = mul-le-mul-left widestBlock few in
     omega arith
 
-pub rendered-text : (bs out : List ℕ) {end : ℕ} {after : List ℕ} → widestPage ≤ length out → Puts out after 0 end (page bs) → Renders bs out (Text end) after
+pub rendered-text : (bs out : List ℕ) {end : ℕ} {after : List ℕ} → widestPage ≤ length out → Puts out after 0 end (page bs) → Renders bs out (said (Text end)) after
 rendered-text bs out {end} {after} l p =
     let e : end ≡ length (page bs) = omega (arith, p .place) in
-    subst₂ (λ (n : ℕ) (x : List ℕ). Renders bs out (Text n) x) (sym e) (sym (p .bytes)) (text l)
-
--- two results that meet the promise are equal
-pub renders-one : {bs out : List ℕ} {a b : Rendered} {x y : List ℕ} → Renders bs out a x → Renders bs out b y → (a ≡ b) × (x ≡ y)
-renders-one (room h) (room k) = (refl, refl)
-renders-one (room h) (text k) = absurd (omega arith)
-renders-one (text h) (room k) = absurd (omega arith)
-renders-one (text h) (text k) = (refl, refl)
+    subst₂ (λ (n : ℕ) (x : List ℕ). Renders bs out (said (Text n)) x) (sym e) (sym (p .bytes)) (text l)
