@@ -32,7 +32,8 @@ use Rattle.tables.specs.FilledLaws.{filled-held, filled-room}
 use Rattle.writer.specs.declared.Write.{Write}
 use Rattle.writer.specs.declared.Write.the-variants as write
 use Rattle.writer.specs.Writing.{Writes, said, done}
-use Rattle.writer.specs.RoundTripLaws.{writes-one, written-back}
+use Rattle.writer.specs.AnswerLaws.{written-back}
+use Rattle.writer.specs.Theorems.{writes-one}
 use Rattle.cases.specs.declared.Finding.{Finding}
 use Rattle.cases.specs.declared.Finding.the-variants.{Accepted, Refused}
 use Rattle.lines.specs.Lines.{refusedLine}

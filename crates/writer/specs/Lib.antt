@@ -1,4 +1,5 @@
 pub mod Writing
 pub mod SectionsLaws
 pub mod WritingLaws
-pub mod RoundTripLaws
+pub mod AnswerLaws
+pub mod Theorems

@@ -4,9 +4,8 @@ use mathlib.Core.List.{List, [], _∷_, _++_, map}
 use lib.ListN.{length}
 use lib.Dec.{T}
 use lib.Seq.{sets}
-use Rattle.refusal.specs.declared.Refusal.{Refusal}
 use Rattle.refusal.specs.declared.Refusal.the-variants.{Room, Table}
-use Rattle.refusal.specs.Numbers.{numberOf}
+use Rattle.refusal.specs.Numbers.{Said, refuses, gives}
 use Rattle.model.specs.Rows.{table, column}
 use Rattle.snapshot.specs.declared.Counts.{Counts}
 use Rattle.snapshot.specs.Ranges.{anyOf, none}
@@ -17,20 +16,13 @@ use Rattle.tables.specs.Judging.{routesAt, cell, Holding}
 use Rattle.writer.specs.declared.Write.{Write}
 use Rattle.writer.specs.declared.Write.the-variants.{Written, Refused}
 
--- ---- what is answered, in the paper's numbers
+-- ---- what is answered, in document 01's numbers
 
--- a number, 0 or that of a refusal, and the value with it
-pub record Said : Type 0 where
-  pub number : ℕ
-  pub value : ℕ
-
--- so many bytes were written; a refusal at a place
+-- so many bytes were written
 abbrev pub wrote : ℕ → Said
-wrote n = record { number = 0; value = n }
+wrote n = gives (n ∷ [])
 
-abbrev pub refuses : Refusal → ℕ → Said
-refuses r at = record { number = numberOf r; value = at }
-
+-- the answer of the code
 abbrev pub said : Write → Said
 said (Written n) = wrote n
 said (Refused r at) = refuses r at

@@ -10,6 +10,7 @@ use lib.Dec.{T}
 use lib.Seq.{sets}
 use Rattle.refusal.specs.declared.Refusal.{Refusal}
 use Rattle.refusal.specs.declared.Refusal.the-variants as refusal
+use Rattle.refusal.specs.Numbers.{refuses}
 use Rattle.model.specs.Rows.{table}
 use Rattle.snapshot.specs.declared.Counts.{Counts}
 use Rattle.snapshot.specs.Limits.{mostRouters}
@@ -28,7 +29,7 @@ use Rattle.tables.specs.PartsLaws.{parts-valid, parts-held, holding-parts}
 use Rattle.snapshot.specs.TablesLaws.{has-room}
 use Rattle.records.specs.Putting.{Space, Puts}
 use Rattle.records.specs.PuttingLaws.{puts-append}
-use Rattle.writer.specs.Writing.{networkBytes, pairCount, sizeOf, recordsOf, wrote, refuses, Writes, room, unheld, full, done}
+use Rattle.writer.specs.Writing.{networkBytes, pairCount, sizeOf, recordsOf, wrote, Writes, room, unheld, full, done}
 
 -- the pairs of at most 64 routers
 pub pairs-most : (n : ℕ) → n ≤ mostRouters → pairCount n ≤ pairCount mostRouters
