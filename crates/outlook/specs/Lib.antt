@@ -1,3 +1,4 @@
 pub mod Outlook
 pub mod OutlookLaws
+pub mod AnswerLaws
 pub mod Theorems
