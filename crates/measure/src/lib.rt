@@ -6,7 +6,9 @@ use writer::Write;
 ghost use mathlib.Core.Path.{_≡_};
 ghost use Rattle.model.specs.Lent.{was, is};
 ghost use Rattle.snapshot.specs.Tables.{tables, columns};
-ghost use Rattle.measure.specs.Measure.{readNumber, Reads, Writes, Forecasts};
+ghost use Rattle.writer.specs.Writing.{said as writeSaid};
+ghost use Rattle.outlook.specs.Outlook.{said as outlookSaid};
+ghost use Rattle.measure.specs.Measure.{readNumber, writeNumber, outlookNumber, Reads, Writes, Forecasts};
 
 // What reading answers, as a number.
 fn read_number(read: Read) -> u32
@@ -59,7 +61,17 @@ pub extern "C" fn measure_read(
     read_number(read)
 }
 
-// Writes a snapshot: how many bytes, or 0 for a refusal.
+// What writing answers, as a number.
+fn write_number(written: Write) -> usize
+    ensures { λ r. ⌜ r ≡ writeNumber (writeSaid written) ⌝ }
+{
+    match written {
+        Write::Written(n) => n,
+        Write::Refused(r, _) => 1000000 + refusal::number(r) as usize,
+    }
+}
+
+// Writes a snapshot: how many bytes, or 1,000,000 plus the number of the refusal.
 #[no_mangle]
 pub extern "C" fn measure_write(
     routers: u32,
@@ -88,7 +100,7 @@ pub extern "C" fn measure_write(
         prefixes: prefixes,
         routes: of_routes,
     };
-    match writer::write_snapshot(
+    let written = writer::write_snapshot(
         counts,
         ids,
         distances,
@@ -105,13 +117,21 @@ pub extern "C" fn measure_write(
         nid,
         peer,
         out,
-    ) {
-        Write::Written(n) => n,
-        Write::Refused(_, _) => 0,
+    );
+    write_number(written)
+}
+
+// What a forecast answers, as a number.
+fn outlook_number(outlook: Outlook) -> u32
+    ensures { λ r. ⌜ r ≡ outlookNumber (outlookSaid outlook) ⌝ }
+{
+    match outlook {
+        Outlook::Forecast(d) => d.number,
+        Outlook::Refused(r, _) => 100 + refusal::number(r),
     }
 }
 
-// Forecasts a prefix: how many routers differ, or 100 for a refusal.
+// Forecasts a prefix: how many routers differ, or 100 plus the number of the refusal.
 #[no_mangle]
 pub extern "C" fn measure_forecast(
     routers: u32,
@@ -142,7 +162,7 @@ pub extern "C" fn measure_forecast(
         prefixes: prefixes,
         routes: of_routes,
     };
-    match outlook::forecast(
+    let outlook = outlook::forecast(
         counts,
         ids,
         distances,
@@ -161,8 +181,6 @@ pub extern "C" fn measure_forecast(
         prefix,
         early,
         late,
-    ) {
-        Outlook::Forecast(d) => d.number,
-        Outlook::Refused(_, _) => 100,
-    }
+    );
+    outlook_number(outlook)
 }
