@@ -12,7 +12,8 @@ ghost use Rattle.model.specs.Columns.{columns, lentMesh};
 ghost use Rattle.outlook.specs.Outlook.{cut, Part};
 ghost use Rattle.text.specs.Text.{each, Puts};
 ghost use Rattle.lines.specs.Lines.{widest, routerLine};
-ghost use Rattle.page.specs.Page.{Rows, block, widestBlock, decidedText, lentText, blank, Blocks, lentPage, Ready, said, Renders};
+ghost use Rattle.page.specs.Page.{block, widestBlock, said, Renders};
+ghost use Rattle.page.specs.Lent.{Rows, decidedText, lentText, blank, Blocks, lentPage, Ready};
 
 // Puts the line of every router.
 fn put_routers(
