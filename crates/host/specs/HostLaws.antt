@@ -21,7 +21,7 @@ use Rattle.text.specs.TextLaws.{puts-then}
 use Rattle.scan.specs.declared.Read.the-variants as read
 use Rattle.scan.specs.Scan.{told}
 use Rattle.reader.specs.ReadLaws.{told-refused, told-accepted}
-use Rattle.outlook.specs.declared.Differing.{Differing}
+use Rattle.decide.specs.declared.Differing.{Differing}
 use Rattle.load.specs.Load.{Asked, Forecast}
 use Rattle.host.specs.Host.{areaBytes, refusalCode, routerBytes, Answers, unread, noPrefix, given}
 

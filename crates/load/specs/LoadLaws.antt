@@ -25,8 +25,8 @@ use Rattle.tables.specs.ListsLaws.{map-at}
 use Rattle.tables.specs.HeldLaws.{no-prefix}
 use Rattle.tables.specs.FilledLaws.{filled-held, filled-room}
 use Rattle.tables.specs.Theorems.{routes-few}
-use Rattle.outlook.specs.declared.Differing.{Differing}
-use Rattle.outlook.specs.Outlook.{differingOf, Decided}
+use Rattle.decide.specs.declared.Differing.{Differing}
+use Rattle.decide.specs.Decide.{differingOf, Decided}
 use Rattle.outlook.specs.OutlookLaws.{columnsOf, lent, lent-between, lent-placed}
 use Rattle.load.specs.Load.{behindRoutes, placeFrom, routesPlace, askedRoutes, Asked, Lends, Loaded, front, Forecast}
 

@@ -8,8 +8,8 @@ use Rattle.snapshot.specs.Format.{Snapshot}
 use Rattle.snapshot.specs.Tables.{mesh}
 use Rattle.snapshot.specs.ChecksLaws.{accepted-injective}
 use Rattle.tables.specs.Theorems.{sound}
-use Rattle.outlook.specs.declared.Differing.{Differing}
-use Rattle.outlook.specs.Outlook.{differingOf}
+use Rattle.decide.specs.declared.Differing.{Differing}
+use Rattle.decide.specs.Decide.{differingOf}
 use Rattle.load.specs.Load.{Asked, Forecast}
 
 module _ {bs : List ℕ} {n p : ℕ} (asked : Asked bs n p) where

@@ -14,9 +14,10 @@ use Rattle.snapshot.specs.Tables.{Tables, mesh}
 use Rattle.tables.specs.Theorems.{held-one, sound}
 use Rattle.model.specs.Stability.{Between}
 use Rattle.model.specs.Theorems.{pair-determined}
+use Rattle.decide.specs.Decide.{differingOf}
 use Rattle.outlook.specs.declared.Outlook.{Outlook}
 use Rattle.outlook.specs.declared.Outlook.the-variants.{Forecast, Refused}
-use Rattle.outlook.specs.Outlook.{Forecasts, room, noSnapshot, noPrefix, given, differingOf, valuesOf, said}
+use Rattle.outlook.specs.Outlook.{Forecasts, room, noSnapshot, noPrefix, given, valuesOf, said}
 use Rattle.outlook.specs.OutlookLaws.{roomy}
 
 -- numbers and values tell the answer

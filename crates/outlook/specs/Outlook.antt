@@ -16,9 +16,10 @@ use Rattle.snapshot.specs.Tables.{Tables, short, Held, mesh}
 use Rattle.model.specs.Contest.{early, late}
 use Rattle.model.specs.Columns.{Columns, columns, Placed}
 use Rattle.model.specs.Decision.{Mesh}
-use Rattle.model.specs.Stability.{Between, differing}
+use Rattle.model.specs.Stability.{Between}
 use Rattle.word.specs.Word.{word}
-use Rattle.outlook.specs.declared.Differing.{Differing}
+use Rattle.decide.specs.declared.Differing.{Differing}
+use Rattle.decide.specs.Decide.{differingOf}
 use Rattle.outlook.specs.declared.Outlook.{Outlook}
 use Rattle.outlook.specs.declared.Outlook.the-variants.{Forecast, Refused}
 
@@ -26,11 +27,7 @@ use Rattle.outlook.specs.declared.Outlook.the-variants.{Forecast, Refuse
 abbrev pub shortOf : Tables → List ℕ → List ℕ → List Bool
 shortOf t early late = short t ++ (ltb (length early) mostRouters ∷ ltb (length late) mostRouters ∷ [])
 
--- the word of the routers whose two rows differ, with the number of its ones
-abbrev pub differingOf : Mesh → List ℕ → List ℕ → Differing
-differingOf M early late = record { word = word (differing M early late); number = length (differing M early late) }
-
--- their values in an answer: the word, and the number of its ones
+-- the values of an answer: the word of the routers that differ, and the number of its ones
 abbrev pub valuesOf : Differing → List ℕ
 valuesOf d = d .word ∷ d .number ∷ []
 
@@ -71,13 +68,7 @@ cut at n c = columns
     (part at n (c .router)) (part at n (c .asn)) (part at n (c .preference)) (part at n (c .path))
     (part at n (c .origin)) (part at n (c .med)) (part at n (c .nid)) (part at n (c .peer))
 
--- the early and the late rows of a mesh, and the routers that differ
-pub record Decided (M : Mesh) (d : Differing) (earlies lates : List ℕ) : Type 0 where
-  pub early-rows : earlies ≡ early M
-  pub late-rows : lates ≡ late M
-  pub differs : d ≡ differingOf M (early M) (late M)
-
--- the same at the start of two areas, whose other entries are as before
+-- the early and the late rows of a mesh at the start of two areas, whose other entries are as before; and the routers that differ
 pub record Shown (M : Mesh) (d : Differing) (early₀ early₁ late₀ late₁ : List ℕ) : Type 0 where
   pub early-area : early₁ ≡ sets early₀ 0 (early M)
   pub late-area : late₁ ≡ sets late₀ 0 (late M)

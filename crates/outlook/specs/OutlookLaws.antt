@@ -9,9 +9,7 @@ use lib.ListN.{length, getD, drop, length-map, List·getD-eq-default}
 use lib.Dec.{T, eqb, ltb}
 use borrow.Author.Tests.{ltb-false, eqb-true}
 use lib.Seq.{sets, getD-take}
-use lib.Count.{ones}
-use Rattle.word.specs.Word.{word, differs, differingIn}
-use Rattle.word.specs.WordLaws.{ones-word}
+use Rattle.word.specs.Word.{word, differs}
 use Rattle.snapshot.specs.declared.Counts.{Counts}
 use Rattle.snapshot.specs.Format.{Snapshot, Valid}
 use Rattle.snapshot.specs.Limits.{mostRouters, mostRoutes}
@@ -24,17 +22,18 @@ use Rattle.tables.specs.Theorems.{held-ids, held-distance, held-count, held-fit
 use Rattle.tables.specs.Judging.{Holding}
 use Rattle.model.specs.Rows.{keep, span, table, column, start}
 use Rattle.model.specs.Decision.{Route, Mesh, metric, choice}
-use Rattle.model.specs.Stability.{Sound, Between, available, differing}
+use Rattle.model.specs.Stability.{Sound, Between, available}
 use Rattle.model.specs.Contest.{early, late, atPlace, holding, earliest, latest, contest}
-use Rattle.model.specs.Columns.{Columns, columns, lentMesh, ForecastRows, Placed}
+use Rattle.model.specs.Columns.{Columns, columns, lentMesh, Placed}
 use Rattle.model.specs.MeshLaws.{Alike, sound-alike, between-alike}
 use Rattle.model.specs.NumberLaws.{le-or-lt}
 use Rattle.model.specs.RowLaws.{by, table-length}
 use Rattle.model.specs.ColumnLaws.{sets-front}
 use Rattle.model.specs.Theorems.{forecast, pair-determined}
-use Rattle.outlook.specs.declared.Differing.{Differing}
+use Rattle.decide.specs.declared.Differing.{Differing}
+use Rattle.decide.specs.Decide.{differingOf, Decided}
 use Rattle.outlook.specs.declared.Outlook.the-variants.{Forecast}
-use Rattle.outlook.specs.Outlook.{Forecasts, given, differingOf, said, shortOf, cut, Decided, Shown, Part}
+use Rattle.outlook.specs.Outlook.{Forecasts, given, said, shortOf, cut, Shown, Part}
 
 -- ---- room
 
@@ -191,23 +190,6 @@ module _ {counts : Counts} {t : Tables} {s : Snapshot} (enough : Room t) (valid 
 
       alike : (f : Route → ℕ) → length (map f (routesOf s p)) ≡ length (map (λ r. r .router) (routesOf s p))
       alike f = one f ∙ sym (one (λ r. r .router))
-
--- ---- the routers that differ
-
--- what the code counts of the rows of a mesh
-pub decided : (M : Mesh) {e l : List ℕ} {bits number : ℕ} → ForecastRows M e l → bits ≡ word (differingIn e l) → number ≡ ones bits
-    → Decided M (record { word = bits; number = number }) e l
-decided M {e} {l} {bits} {number} rows w o = record {
-  early-rows = rows .early-rows;
-  late-rows = rows .late-rows;
-  differs = ap₂ (λ (x y : ℕ). record { word = x; number = y }) (w ∙ ap word same) (o ∙ ap ones w ∙ ones-word (differs e l) (length e) ∙ ap length same);
-}
-  where
-    size : length e ≡ M .routers
-    size = ap length (rows .early-rows) ∙ table-length (M .routers) (λ r. choice M r (available M (table (M .routers) (atPlace M (earliest (contest M)))) r))
-
-    same : differingIn e l ≡ differing M (early M) (late M)
-    same = ap (λ (n : ℕ). keep (differs e l) (span 0 n)) size ∙ ap₂ (λ (x y : List ℕ). differing M x y) (rows .early-rows) (rows .late-rows)
 
 -- ---- rows at the start of two areas
 

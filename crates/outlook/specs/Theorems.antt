@@ -10,8 +10,9 @@ use Rattle.snapshot.specs.Tables.{Tables, mesh}
 use Rattle.tables.specs.Theorems.{sound}
 use Rattle.model.specs.Stability.{Between, Only}
 use Rattle.model.specs.Theorems.{settled-only}
+use Rattle.decide.specs.Decide.{differingOf}
 use Rattle.outlook.specs.declared.Outlook.{Outlook}
-use Rattle.outlook.specs.Outlook.{Forecasts, differingOf, said}
+use Rattle.outlook.specs.Outlook.{Forecasts, said}
 use Rattle.outlook.specs.AnswerLaws.{Same, said-tells, same-said}
 
 -- "Each public call's promise determines its result and the later contents of everything it was lent, for all inputs and refusals"
