@@ -60,13 +60,13 @@ pub fn read(input: &[u8], lent: &mut Lent) -> u32 {
     call!(measure_read, (input.as_ptr(), input.len()), lent, ())
 }
 
-/// The number of bytes written, 0 for a refusal.
+/// The number of bytes written, or 1,000,000 plus the refusal's number.
 pub fn write(counts: Counts, lent: &mut Lent, out: &mut [u8]) -> usize {
     let (routers, prefixes, routes) = (counts.routers as u32, counts.prefixes as u32, counts.routes as u32);
     call!(measure_write, (routers, prefixes, routes), lent, (out.as_mut_ptr(), out.len()))
 }
 
-/// The number of routers that differ, or 100 for a refusal.
+/// The number of routers that differ, or 100 plus the refusal's number.
 pub fn forecast(counts: Counts, lent: &mut Lent, prefix: usize, early: &mut [u16], late: &mut [u16]) -> u32 {
     let (routers, prefixes, routes) = (counts.routers as u32, counts.prefixes as u32, counts.routes as u32);
     call!(

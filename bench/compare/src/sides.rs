@@ -31,18 +31,26 @@ impl Sides {
         self.counts.prefixes
     }
 
+    /// The bytes and their number; in an output one byte too short, the refusal.
     fn compare_writing(&mut self) -> Result<(), String> {
-        let (mut plain, mut proved) = (vec![0; LONGEST], vec![0; LONGEST]);
-        let length = write(self.counts, &self.plain.tables(), &mut plain).map_err(|refusal| format!("{refusal:?}"))?;
+        self.compare_written(LONGEST)?;
+        self.compare_written(self.input.len() - 1)
+    }
+
+    fn compare_written(&mut self, room: usize) -> Result<(), String> {
+        let (mut plain, mut proved) = (vec![0; room], vec![0; room]);
+        let written = write(self.counts, &self.plain.tables(), &mut plain);
+        let wanted = written.unwrap_or_else(|(number, _)| 1_000_000 + number as usize);
         let given = proved::write(self.counts, &mut self.proved, &mut proved);
-        same(given == length && proved == plain && proved[..length] == self.input, "writing")
+        same(given == wanted && proved == plain, "writing")?;
+        same(written.is_err() || proved[..wanted] == self.input, "writing back what was read")
     }
 
     /// Numbers and all entries of the answers; at the number of prefixes itself, the refusal.
     fn compare_forecast(&mut self, prefix: usize) -> Result<(), String> {
         let (mut plain, mut proved) = (([7; 64], [7; 64]), ([7; 64], [7; 64]));
         let outlook = forecast(self.counts, &self.plain.tables(), prefix, &mut plain.0, &mut plain.1);
-        let wanted = outlook.map_or(100, |outlook| outlook.open);
+        let wanted = outlook.map_or_else(|(number, _)| 100 + number, |outlook| outlook.open);
         let given = proved::forecast(self.counts, &mut self.proved, prefix, &mut proved.0, &mut proved.1);
         same(given == wanted && proved == plain, "forecasting")
     }

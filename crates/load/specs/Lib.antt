@@ -1,3 +1,4 @@
 pub mod Load
 pub mod SkipLaws
 pub mod LoadLaws
+pub mod Theorems

@@ -16,8 +16,8 @@ use Rattle.snapshot.specs.Format.{Snapshot, Valid, encode}
 use Rattle.snapshot.specs.Reading.{accepted, reading}
 use Rattle.snapshot.specs.Tables.{Columns, putRoutes, mesh, Wide}
 use Rattle.fill.specs.Fill.{idsIn, entryIn, behindDistances, routesFrom}
-use Rattle.outlook.specs.declared.Differing.{Differing}
-use Rattle.outlook.specs.Outlook.{differingOf}
+use Rattle.decide.specs.declared.Differing.{Differing}
+use Rattle.decide.specs.Decide.{differingOf}
 
 -- the place behind the routes that stand from a place on
 abbrev pub behindRoutes : List ℕ → ℕ → ℕ

@@ -1,5 +1,5 @@
 -- What is loaded for a prefix is what reading would leave in tables for it, so its forecast is the snapshot's.
-use Prim.Native.Nat.{ℕ, zero, suc, _+_, _-_, _*_, _≤_, _<_}
+use Prim.Native.Nat.{ℕ, zero, suc, _+_, _*_, _≤_, _<_}
 use native.Mathlib.Nat.{not-suc-le-zero}
 use native.Mathlib.Omega.{arith}
 use mathlib.Core.Path.{_≡_, sym, ap, ap₂, _∙_, subst, subst₂}
@@ -14,21 +14,19 @@ use Rattle.model.specs.ColumnLaws.{sets-front}
 use Rattle.model.specs.Columns as decided
 use Rattle.model.specs.Columns.{lentMesh, Placed}
 use Rattle.model.specs.Stability.{Between}
-use Rattle.model.specs.Theorems.{pair-determined}
 use Rattle.snapshot.specs.Limits.{mostInPrefix, mostRoutes}
 use Rattle.snapshot.specs.Records.{endForm, written}
 use Rattle.snapshot.specs.Format.{Prefix, Snapshot, Each, GoodPrefix, Valid, records, prefixesBytes, encode}
 use Rattle.snapshot.specs.Tables.{Columns, Tables, columns, tables, filled, putRoutes, routesOf, countsOf, Held, mesh, Room, Wide}
-use Rattle.snapshot.specs.ChecksLaws.{accepted-injective}
 use Rattle.fill.specs.Fill.{idsIn, entryIn, behindDistances, routesFrom, Spans}
 use Rattle.fill.specs.FillLaws.{Stands, prefix-stands, behind-distances, spans, fills}
 use Rattle.fill.specs.StoresLaws.{Alike, alike-put, wide-alike}
 use Rattle.tables.specs.ListsLaws.{map-at}
 use Rattle.tables.specs.HeldLaws.{no-prefix}
 use Rattle.tables.specs.FilledLaws.{filled-held, filled-room}
-use Rattle.tables.specs.Theorems.{routes-few, sound}
-use Rattle.outlook.specs.declared.Differing.{Differing}
-use Rattle.outlook.specs.Outlook.{differingOf, Decided}
+use Rattle.tables.specs.Theorems.{routes-few}
+use Rattle.decide.specs.declared.Differing.{Differing}
+use Rattle.decide.specs.Decide.{differingOf, Decided}
 use Rattle.outlook.specs.OutlookLaws.{columnsOf, lent, lent-between, lent-placed}
 use Rattle.load.specs.Load.{behindRoutes, placeFrom, routesPlace, askedRoutes, Asked, Lends, Loaded, front, Forecast}
 
@@ -217,20 +215,3 @@ module _ {bs : List ℕ} {n p : ℕ} (asked : Asked bs n p) where
     loaded-forecast {d} {early} {late} h =
         let (between, differs) = decides (asked .valid) (asked .below) room there (subst (λ (m : ℕ). Decided (lentMesh m ids distances (front rows c)) d early late) (asked .routers) h) in
         record { snapshot = asked .snapshot; read = asked .read; below = asked .below; between = between; differs = differs }
-
-  -- ---- any two forecasts of the prefix are one
-
-  forecast-there : {d : Differing} {early late : List ℕ} → Forecast bs p d early late
-      → Between (mesh (asked .snapshot) p) early late × (d ≡ differingOf (mesh (asked .snapshot) p) early late)
-  forecast-there {d} {early} {late} f =
-      subst (λ (s : Snapshot). Between (mesh s p) early late × (d ≡ differingOf (mesh s p) early late)) (accepted-injective (sym (f .read) ∙ asked .read))
-      (f .between, f .differs)
-
-  pub forecast-one : {d d′ : Differing} {early early′ late late′ : List ℕ} → Forecast bs p d early late → Forecast bs p d′ early′ late′
-      → (d ≡ d′) × (early ≡ early′) × (late ≡ late′)
-  forecast-one {early = early} {early′ = early′} {late = late} {late′ = late′} f g =
-      let M = mesh (asked .snapshot) p in
-      let a = forecast-there f in
-      let b = forecast-there g in
-      let pair = pair-determined M (sound (asked .valid) p (asked .below)) early late early′ late′ (a .0) (b .0) in
-      (a .1 ∙ ap₂ (differingOf M) (pair .0) (pair .1) ∙ sym (b .1), pair .0, pair .1)

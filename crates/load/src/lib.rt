@@ -5,7 +5,7 @@ ghost use lib.ListN.{length};
 ghost use Rattle.model.specs.Lent.{was, is};
 ghost use Rattle.snapshot.specs.Tables.{columns};
 ghost use Rattle.load.specs.Load.{behindRoutes, placeFrom, Asked, Lends, Loaded, Forecast};
-use outlook::Differing;
+use decide::Differing;
 
 // The place behind the routes that stand from a place on.
 fn behind_routes(input: &[u8], at: usize) -> usize
@@ -119,7 +119,7 @@ fn forecast_in(
         nid,
         peer,
     );
-    outlook::decided(
+    decide::decided(
         &router[..end],
         &asn[..end],
         &preference[..end],

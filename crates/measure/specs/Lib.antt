@@ -1,1 +1,3 @@
 pub mod Measure
+pub mod MeasureLaws
+pub mod Theorems

@@ -1,2 +1,4 @@
 pub mod Outlook
 pub mod OutlookLaws
+pub mod AnswerLaws
+pub mod Theorems

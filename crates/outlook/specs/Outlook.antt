@@ -7,6 +7,7 @@ use lib.Dec.{ltb}
 use lib.ListN.{length, take, drop}
 use lib.Seq.{sets}
 use Rattle.refusal.specs.declared.Refusal.the-variants.{Room, Table, NoPrefix}
+use Rattle.refusal.specs.Numbers.{Said, refuses, gives}
 use Rattle.snapshot.specs.declared.Counts.{Counts}
 use Rattle.snapshot.specs.Limits.{mostRouters, mostRoutes}
 use Rattle.snapshot.specs.Ranges.{anyOf}
@@ -15,15 +16,47 @@ use Rattle.snapshot.specs.Tables.{Tables, short, Held, mesh}
 use Rattle.model.specs.Contest.{early, late}
 use Rattle.model.specs.Columns.{Columns, columns, Placed}
 use Rattle.model.specs.Decision.{Mesh}
-use Rattle.model.specs.Stability.{Between, differing}
+use Rattle.model.specs.Stability.{Between}
 use Rattle.word.specs.Word.{word}
-use Rattle.outlook.specs.declared.Differing.{Differing}
+use Rattle.decide.specs.declared.Differing.{Differing}
+use Rattle.decide.specs.Decide.{differingOf}
 use Rattle.outlook.specs.declared.Outlook.{Outlook}
 use Rattle.outlook.specs.declared.Outlook.the-variants.{Forecast, Refused}
 
 -- ROOM: which of the tables is shorter than its limit, or which answer area shorter than 64 entries
 abbrev pub shortOf : Tables → List ℕ → List ℕ → List Bool
 shortOf t early late = short t ++ (ltb (length early) mostRouters ∷ ltb (length late) mostRouters ∷ [])
+
+-- the values of an answer: the word of the routers that differ, and the number of its ones
+abbrev pub valuesOf : Differing → List ℕ
+valuesOf d = d .word ∷ d .number ∷ []
+
+-- an answer in document 01's numbers
+abbrev pub said : Outlook → Said
+said (Forecast d) = gives (valuesOf d)
+said (Refused r at) = refuses r at
+
+-- the answer to these counts, tables, prefix number and answer areas, and what the areas hold afterwards; checked in this order
+pub data Forecasts (counts : Counts) (t : Tables) (p : ℕ) (early late : List ℕ) : Said → List ℕ → List ℕ → Type 0 where
+  -- a lent table, or an answer area, is too short
+  room : anyOf (shortOf t early late) ≡ true → Forecasts counts t p early late (refuses Room 0) early late
+  -- the tables are not those of any snapshot
+  noSnapshot : anyOf (shortOf t early late) ≡ false
+      → ((s : Snapshot) → Valid s → Held counts t s → ⊥)
+      → Forecasts counts t p early late (refuses Table 0) early late
+  -- they are those of s, and the prefix number is not below its prefix count
+  noPrefix : anyOf (shortOf t early late) ≡ false
+      → (s : Snapshot) → Valid s → Held counts t s
+      → length (s .prefixes) ≤ p
+      → Forecasts counts t p early late (refuses NoPrefix 0) early late
+  -- they are those of s: the early and the late assignment of that prefix of s, from the first router on, and the routers that differ
+  given : anyOf (shortOf t early late) ≡ false
+      → (s : Snapshot) → Valid s → Held counts t s
+      → p < length (s .prefixes)
+      → (e l : List ℕ) → Between (mesh s p) e l
+      → Forecasts counts t p early late (gives (valuesOf (differingOf (mesh s p) e l))) (sets early 0 e) (sets late 0 l)
+
+-- ---- what the code knows of lent columns
 
 -- so many entries of a list, from one on
 abbrev pub part : ℕ → ℕ → List ℕ → List ℕ
@@ -35,17 +68,7 @@ cut at n c = columns
     (part at n (c .router)) (part at n (c .asn)) (part at n (c .preference)) (part at n (c .path))
     (part at n (c .origin)) (part at n (c .med)) (part at n (c .nid)) (part at n (c .peer))
 
--- the word of the routers whose two rows differ, with the number of its ones
-abbrev pub differingOf : Mesh → List ℕ → List ℕ → Differing
-differingOf M early late = record { word = word (differing M early late); number = length (differing M early late) }
-
--- the early and the late rows of a mesh, and the routers that differ
-pub record Decided (M : Mesh) (d : Differing) (earlies lates : List ℕ) : Type 0 where
-  pub early-rows : earlies ≡ early M
-  pub late-rows : lates ≡ late M
-  pub differs : d ≡ differingOf M (early M) (late M)
-
--- the same at the start of two areas, whose other entries are as before
+-- the early and the late rows of a mesh at the start of two areas, whose other entries are as before; and the routers that differ
 pub record Shown (M : Mesh) (d : Differing) (early₀ early₁ late₀ late₁ : List ℕ) : Type 0 where
   pub early-area : early₁ ≡ sets early₀ 0 (early M)
   pub late-area : late₁ ≡ sets late₀ 0 (late M)
@@ -66,23 +89,3 @@ pub record Part (routers first end : ℕ) (ids distances : List ℕ) (c : Column
   pub placed : Placed routers ids distances (cut first (end - first) c)
   pub earlies : routers ≤ length early
   pub lates : routers ≤ length late
-
--- the answer to these counts, tables, prefix number and answer areas, and what the areas hold afterwards; checked in this order
-pub data Forecasts (counts : Counts) (t : Tables) (p : ℕ) (early late : List ℕ) : Outlook → List ℕ → List ℕ → Type 0 where
-  -- a lent table, or an answer area, is too short
-  room : anyOf (shortOf t early late) ≡ true → Forecasts counts t p early late (Refused Room 0) early late
-  -- the tables are not those of any snapshot
-  noSnapshot : anyOf (shortOf t early late) ≡ false
-      → ((s : Snapshot) → Valid s → Held counts t s → ⊥)
-      → Forecasts counts t p early late (Refused Table 0) early late
-  -- they are those of s, and the prefix number is not below its prefix count
-  noPrefix : anyOf (shortOf t early late) ≡ false
-      → (s : Snapshot) → Valid s → Held counts t s
-      → length (s .prefixes) ≤ p
-      → Forecasts counts t p early late (Refused NoPrefix 0) early late
-  -- they are those of s: the early and the late assignment of that prefix of s, from the first router on, and the routers that differ
-  given : anyOf (shortOf t early late) ≡ false
-      → (s : Snapshot) → Valid s → Held counts t s
-      → p < length (s .prefixes)
-      → (e l : List ℕ) → Between (mesh s p) e l
-      → Forecasts counts t p early late (Forecast (differingOf (mesh s p) e l)) (sets early 0 e) (sets late 0 l)

@@ -1,17 +1,15 @@
--- The promise of a forecast determines its answer and both areas, and its number says whether a second stable assignment exists.
+-- What the code decides on lent tables is early and late of the snapshot that they hold.
 use Prim.Native.Nat.{ℕ, _+_, _-_, _≤_, _<_}
 use native.Mathlib.Omega.{arith}
 use mathlib.Core.Path.{_≡_, refl, sym, ap, ap₂, subst, _∙_, fun-ext}
-use mathlib.Core.Logic.{_↔_, inl, inr}
+use mathlib.Core.Logic.{inl, inr}
 use mathlib.Core.Bool.{Bool, true, false, _||_, not, true≢false}
 use mathlib.Core.List.{List, _++_, map}
 use lib.ListN.{length, getD, drop, length-map, List·getD-eq-default}
 use lib.Dec.{T, eqb, ltb}
 use borrow.Author.Tests.{ltb-false, eqb-true}
 use lib.Seq.{sets, getD-take}
-use lib.Count.{ones}
-use Rattle.word.specs.Word.{word, differs, differingIn}
-use Rattle.word.specs.WordLaws.{ones-word}
+use Rattle.word.specs.Word.{word, differs}
 use Rattle.snapshot.specs.declared.Counts.{Counts}
 use Rattle.snapshot.specs.Format.{Snapshot, Valid}
 use Rattle.snapshot.specs.Limits.{mostRouters, mostRoutes}
@@ -20,22 +18,22 @@ use Rattle.snapshot.specs.RangesLaws.{none-any}
 use Rattle.snapshot.specs.TablesLaws.{has-room}
 use Rattle.snapshot.specs.Tables.{Tables, short, Room, Held, routesOf, mesh}
 use Rattle.snapshot.specs.ChecksLaws.{routers-few}
-use Rattle.tables.specs.Theorems.{held-one, held-ids, held-distance, held-count, held-fits, held-column, routes-few, absent-zero, sound}
+use Rattle.tables.specs.Theorems.{held-ids, held-distance, held-count, held-fits, held-column, routes-few, absent-zero, sound}
 use Rattle.tables.specs.Judging.{Holding}
 use Rattle.model.specs.Rows.{keep, span, table, column, start}
 use Rattle.model.specs.Decision.{Route, Mesh, metric, choice}
-use Rattle.model.specs.Stability.{Sound, Between, Only, available, differing}
+use Rattle.model.specs.Stability.{Sound, Between, available}
 use Rattle.model.specs.Contest.{early, late, atPlace, holding, earliest, latest, contest}
-use Rattle.model.specs.Columns.{Columns, columns, lentMesh, ForecastRows, Placed}
+use Rattle.model.specs.Columns.{Columns, columns, lentMesh, Placed}
 use Rattle.model.specs.MeshLaws.{Alike, sound-alike, between-alike}
 use Rattle.model.specs.NumberLaws.{le-or-lt}
 use Rattle.model.specs.RowLaws.{by, table-length}
 use Rattle.model.specs.ColumnLaws.{sets-front}
-use Rattle.model.specs.Theorems.{forecast, pair-determined, settled-only}
-use Rattle.outlook.specs.declared.Differing.{Differing}
-use Rattle.outlook.specs.declared.Outlook.{Outlook}
+use Rattle.model.specs.Theorems.{forecast, pair-determined}
+use Rattle.decide.specs.declared.Differing.{Differing}
+use Rattle.decide.specs.Decide.{differingOf, Decided}
 use Rattle.outlook.specs.declared.Outlook.the-variants.{Forecast}
-use Rattle.outlook.specs.Outlook.{Forecasts, room, noSnapshot, noPrefix, given, differingOf, shortOf, cut, Decided, Shown, Part}
+use Rattle.outlook.specs.Outlook.{Forecasts, given, said, shortOf, cut, Shown, Part}
 
 -- ---- room
 
@@ -85,51 +83,6 @@ module _ (t : Tables) (early late : List ℕ) where
 
     pub late-room : mostRouters ≤ length late
     late-room = ltb-false _ _ (each-of (anyOf (short t)) short-early short-late enough .2)
-
--- ---- one answer
-
--- the same answer and the same areas
-pub record Same (a b : Outlook) (early early′ late late′ : List ℕ) : Type 0 where
-  pub answer : a ≡ b
-  pub earlies : early ≡ early′
-  pub lates : late ≡ late′
-
-pub forecasts-one : {counts : Counts} {t : Tables} {p : ℕ} {early late : List ℕ} {a b : Outlook} {e l e′ l′ : List ℕ}
-    → Forecasts counts t p early late a e l → Forecasts counts t p early late b e′ l′ → Same a b e e′ l l′
-forecasts-one (room h) (room k) = record { answer = refl; earlies = refl; lates = refl }
-forecasts-one (room h) (noSnapshot k n) = absurd (true≢false (sym h ∙ k))
-forecasts-one (room h) (noPrefix k s v i m) = absurd (true≢false (sym h ∙ k))
-forecasts-one (room h) (given k s v i m e l b) = absurd (true≢false (sym h ∙ k))
-forecasts-one (noSnapshot h n) (room k) = absurd (true≢false (sym k ∙ h))
-forecasts-one (noSnapshot h n) (noSnapshot k o) = record { answer = refl; earlies = refl; lates = refl }
-forecasts-one (noSnapshot h n) (noPrefix k s v i m) = absurd (n s v i)
-forecasts-one (noSnapshot h n) (given k s v i m e l b) = absurd (n s v i)
-forecasts-one (noPrefix h s v i m) (room k) = absurd (true≢false (sym k ∙ h))
-forecasts-one (noPrefix h s v i m) (noSnapshot k n) = absurd (n s v i)
-forecasts-one (noPrefix h s v i m) (noPrefix k u w j o) = record { answer = refl; earlies = refl; lates = refl }
-forecasts-one {t} {p} {early} {late} (noPrefix h s v i m) (given k u w j o e l b) =
-    absurd (let same = ap (λ (x : Snapshot). length (x .prefixes)) (held-one (roomy t early late h) v i w j) in omega arith)
-forecasts-one (given h s v i m e l b) (room k) = absurd (true≢false (sym k ∙ h))
-forecasts-one (given h s v i m e l b) (noSnapshot k n) = absurd (n s v i)
-forecasts-one {t} {p} {early} {late} (given h s v i m e l b) (noPrefix k u w j o) =
-    absurd (let same = ap (λ (x : Snapshot). length (x .prefixes)) (held-one (roomy t early late h) v i w j) in omega arith)
-forecasts-one {t} {p} {early} {late} (given h s v i m e l b) (given k u w j o e′ l′ b′) =
-    let same = held-one (roomy t early late h) w j v i in
-    let there : Between (mesh s p) e′ l′ = subst (λ (x : Snapshot). Between (mesh x p) e′ l′) same b′ in
-    let pair = pair-determined (mesh s p) (sound v p m) e l e′ l′ b there in
-    record {
-      answer = ap₂ (λ (x y : List ℕ). Forecast (differingOf (mesh s p) x y)) (pair .0) (pair .1)
-          ∙ ap (λ (x : Snapshot). Forecast (differingOf (mesh x p) e′ l′)) (sym same);
-      earlies = ap (sets early 0) (pair .0);
-      lates = ap (sets late 0) (pair .1);
-    }
-
--- ---- settled
-
--- a forecast is settled exactly when its number is 0, and then no second stable assignment exists
-pub settled : (s : Snapshot) (p : ℕ) → Valid s → p < length (s .prefixes) → (e l : List ℕ) → Between (mesh s p) e l
-    → (differingOf (mesh s p) e l .number ≡ 0) ↔ Only (mesh s p)
-settled s p v m e l b = settled-only (mesh s p) (sound v p m) e l b
 
 -- ---- the forecast of lent columns
 
@@ -238,23 +191,6 @@ module _ {counts : Counts} {t : Tables} {s : Snapshot} (enough : Room t) (valid 
       alike : (f : Route → ℕ) → length (map f (routesOf s p)) ≡ length (map (λ r. r .router) (routesOf s p))
       alike f = one f ∙ sym (one (λ r. r .router))
 
--- ---- the routers that differ
-
--- what the code counts of the rows of a mesh
-pub decided : (M : Mesh) {e l : List ℕ} {bits number : ℕ} → ForecastRows M e l → bits ≡ word (differingIn e l) → number ≡ ones bits
-    → Decided M (record { word = bits; number = number }) e l
-decided M {e} {l} {bits} {number} rows w o = record {
-  early-rows = rows .early-rows;
-  late-rows = rows .late-rows;
-  differs = ap₂ (λ (x y : ℕ). record { word = x; number = y }) (w ∙ ap word same) (o ∙ ap ones w ∙ ones-word (differs e l) (length e) ∙ ap length same);
-}
-  where
-    size : length e ≡ M .routers
-    size = ap length (rows .early-rows) ∙ table-length (M .routers) (λ r. choice M r (available M (table (M .routers) (atPlace M (earliest (contest M)))) r))
-
-    same : differingIn e l ≡ differing M (early M) (late M)
-    same = ap (λ (n : ℕ). keep (differs e l) (span 0 n)) size ∙ ap₂ (λ (x y : List ℕ). differing M x y) (rows .early-rows) (rows .late-rows)
-
 -- ---- rows at the start of two areas
 
 module _ {n n′ : ℕ} (e : n ≡ n′) (ids distances : List ℕ) (c : Columns) where
@@ -342,11 +278,11 @@ module _ (counts : Counts) (t : Tables) (p : ℕ) (roomy : Room t) (holding : Ho
     -- what the code shows is the forecast
     pub shown-given : (early₀ late₀ : List ℕ) → anyOf (shortOf t early₀ late₀) ≡ false → {d : Differing} {early₁ late₁ : List ℕ}
         → Shown (lentMesh (counts .routers) (t .ids) (t .distances) (cut first (end - first) (whole t))) d early₀ early₁ late₀ late₁
-        → Forecasts counts t p early₀ late₀ (Forecast d) early₁ late₁
+        → Forecasts counts t p early₀ late₀ (said (Forecast d)) early₁ late₁
     shown-given early₀ late₀ enough {d} {early₁} {late₁} h =
-        subst (λ (x : Differing). Forecasts counts t p early₀ late₀ (Forecast x) early₁ late₁) (sym answer)
-        (subst (λ (x : List ℕ). Forecasts counts t p early₀ late₀ (Forecast (differingOf (mesh s p) (early L) (late L))) x late₁) (sym (k .early-area))
-        (subst (λ (x : List ℕ). Forecasts counts t p early₀ late₀ (Forecast (differingOf (mesh s p) (early L) (late L))) (sets early₀ 0 (early L)) x) (sym (k .late-area))
+        subst (λ (x : Differing). Forecasts counts t p early₀ late₀ (said (Forecast x)) early₁ late₁) (sym answer)
+        (subst (λ (x : List ℕ). Forecasts counts t p early₀ late₀ (said (Forecast (differingOf (mesh s p) (early L) (late L)))) x late₁) (sym (k .early-area))
+        (subst (λ (x : List ℕ). Forecasts counts t p early₀ late₀ (said (Forecast (differingOf (mesh s p) (early L) (late L)))) (sets early₀ 0 (early L)) x) (sym (k .late-area))
         (given enough s (holding .valid) (holding .held) there (early L) (late L) (lent-between roomy (holding .valid) (holding .held) p there))))
       where
         L : Mesh

@@ -1,22 +1,17 @@
 // The forecast of one prefix over lent tables: each router's early and late row, and which routers differ.
+use decide::Differing;
 use refusal::Refusal;
 use snapshot::Counts;
 use tables::Verdict;
 ghost use mathlib.Core.Path.{_≡_};
 ghost use Prim.Native.Nat.{_-_, _≤_};
 ghost use lib.ListN.{length};
-ghost use Rattle.model.specs.Columns.{columns, lentMesh, Placed};
+ghost use Rattle.model.specs.Columns.{columns, lentMesh};
 ghost use Rattle.model.specs.Lent.{was, is};
 ghost use Rattle.snapshot.specs.Limits.{mostRoutes};
 ghost use Rattle.snapshot.specs.Tables.{tables, columns as rowColumns};
 ghost use Rattle.model.specs.Rows.{start};
-ghost use Rattle.outlook.specs.Outlook.{cut, Decided, Part, Shown, Forecasts};
-
-// The routers whose early and late rows differ: bit r for router r, and how many there are.
-pub struct Differing {
-    pub word: u64,
-    pub number: u32,
-}
+ghost use Rattle.outlook.specs.Outlook.{cut, Part, Shown, said, Forecasts};
 
 // What a forecast answers: the routers that differ (settled exactly when there are none), or a refusal with its place.
 pub enum Outlook {
@@ -36,48 +31,8 @@ fn start_of(routes: &[u32], prefix: usize) -> usize
     sum
 }
 
-// The early and the late row of each router for the routes of these columns, and the routers that differ. There is one router for
-// each entry of `early`.
-pub fn decided(
-    router: &[u32],
-    asn: &[u32],
-    preference: &[u32],
-    path: &[u32],
-    origin: &[u32],
-    med: &[u32],
-    nid: &[u32],
-    peer: &[u32],
-    ids: &[u32],
-    distances: &[u32],
-    early: &mut [u16],
-    late: &mut [u16],
-) -> Differing
-    requires { ⌜ Placed (length (now early)) (now ids) (now distances) (columns (now router) (now asn) (now preference) (now path) (now origin) (now med) (now nid) (now peer)) × (length (now late) ≡ length (now early)) ⌝ }
-    ensures { λ d. ⌜ Decided (lentMesh (length (was early)) (was ids) (was distances) (columns (was router) (was asn) (was preference) (was path) (was origin) (was med) (was nid) (was peer))) d (is early) (is late) ⌝ }
-{
-    hold::forecast_rows(
-        router,
-        asn,
-        preference,
-        path,
-        origin,
-        med,
-        nid,
-        peer,
-        ids,
-        distances,
-        early,
-        late,
-    );
-    let bits = word::differing(early, late);
-    Differing {
-        word: bits,
-        number: word::ones(bits),
-    }
-}
-
-// The same for the routes from one row of lent columns to another: the routers' rows go to the start of the areas, the entries past
-// the last router stay.
+// The early and the late row of each router for the routes from one row of lent columns to another, and the routers that differ. The
+// routers' rows go to the start of the areas, the entries past the last router stay.
 pub fn shown(
     routers: usize,
     first: usize,
@@ -98,7 +53,7 @@ pub fn shown(
     requires { ⌜ Part routers first end (now ids) (now distances) (columns (now router) (now asn) (now preference) (now path) (now origin) (now med) (now nid) (now peer)) (now early) (now late) ⌝ }
     ensures { λ d. ⌜ Shown (lentMesh routers (was ids) (was distances) (cut first (end - first) (columns (was router) (was asn) (was preference) (was path) (was origin) (was med) (was nid) (was peer)))) d (was early) (is early) (was late) (is late) ⌝ }
 {
-    decided(
+    decide::decided(
         &router[first..end],
         &asn[first..end],
         &preference[first..end],
@@ -135,7 +90,7 @@ pub fn forecast(
     early: &mut [u16],
     late: &mut [u16],
 ) -> Outlook
-    ensures { λ r. ⌜ Forecasts counts (tables (was ids) (was distances) (was address) (was bits) (was routes) (rowColumns (was router) (was asn) (was preference) (was path) (was origin) (was mark) (was med) (was nid) (was peer))) prefix (was early) (was late) r (is early) (is late) ⌝ }
+    ensures { λ r. ⌜ Forecasts counts (tables (was ids) (was distances) (was address) (was bits) (was routes) (rowColumns (was router) (was asn) (was preference) (was path) (was origin) (was mark) (was med) (was nid) (was peer))) prefix (was early) (was late) (said r) (is early) (is late) ⌝ }
 {
     let most = snapshot::MOST_ROUTERS as usize;
     if (early.len() < most) | (late.len() < most) {

@@ -14,9 +14,10 @@ use Rattle.model.specs.DecisionLaws.{in-all, decided-in}
 use Rattle.model.specs.Stability.{available, differing}
 use Rattle.model.specs.StabilityLaws.{available-all}
 use Rattle.model.specs.Contest.{early, late, atPlace, holding, earliest, latest, contest}
-use Rattle.outlook.specs.declared.Differing.{Differing}
+use Rattle.decide.specs.declared.Differing.{Differing}
 use Rattle.outlook.specs.Outlook.{Shown}
-use Rattle.page.specs.Page.{Rows, block, decidedText}
+use Rattle.page.specs.Page.{block}
+use Rattle.page.specs.Lent.{Rows, decidedText}
 
 -- ---- rows that are held
 

@@ -1,4 +1,4 @@
--- What is rendered is the page of the bytes given: from reading to tables, and from tables to text.
+-- What is rendered is the page of the bytes given: from reading to tables, from tables to text, and from rounds to early and late.
 use Prim.Native.Nat.{ℕ, _+_, _*_, _≤_, _<_}
 use native.Mathlib.Nat.{mul-le-mul-left}
 use native.Mathlib.Omega.{arith}
@@ -13,32 +13,35 @@ use Rattle.model.specs.Rows.{keep, span, column, start}
 use Rattle.model.specs.RowLaws.{In, here, there, in-span}
 use Rattle.model.specs.Decision.{Mesh, none}
 use Rattle.model.specs.Contest.{early, late}
+use Rattle.model.specs.Theorems.{forecast}
 use Rattle.model.specs.Columns.{Columns, lentMesh}
 use Rattle.snapshot.specs.declared.Counts.{Counts}
 use Rattle.snapshot.specs.Limits.{mostPrefixes}
 use Rattle.snapshot.specs.Ranges.{anyOf}
 use Rattle.snapshot.specs.RangesLaws.{none-any}
 use Rattle.snapshot.specs.Format.{Prefix, Snapshot}
+use Rattle.snapshot.specs.Reading.{accepted, reading}
 use Rattle.snapshot.specs.Theorems.{accepts}
 use Rattle.snapshot.specs.Tables.{Tables, short, Held, mesh, Room}
 use Rattle.scan.specs.declared.Read.{Read}
 use Rattle.scan.specs.declared.Read.the-variants as read
 use Rattle.tables.specs.Judging.{Holding}
+use Rattle.tables.specs.Theorems.{sound}
 use Rattle.snapshot.specs.TablesLaws.{has-room}
 use Rattle.tables.specs.FilledLaws.{filled-held, filled-room}
 use Rattle.outlook.specs.Outlook.{cut}
 use Rattle.outlook.specs.OutlookLaws.{whole, part-of, n-is, same-parts, lent, pair}
-use Rattle.scan.specs.Scan.{said}
+use Rattle.scan.specs.Scan.{said as readSaid}
 use Rattle.reader.specs.Read.{readAnswer, readTables}
 use Rattle.reader.specs.ReadLaws.{was-refused, was-accepted, tables-left}
 use Rattle.lines.specs.Lines.{widest, headingLine}
 use Rattle.text.specs.Text.{each, Puts}
-use Rattle.page.specs.declared.Rendered.{Rendered}
 use Rattle.page.specs.declared.Rendered.the-variants.{Text}
-use Rattle.page.specs.Page.{block, decidedText, prefixOf, snapshotText, answerText, page, widestBlock, widestPage, lentText, blank, Blocks, lentPage, Ready, Renders, room, text}
+use Rattle.page.specs.Page.{block, prefixText, snapshotText, Pages, unread, given, widestBlock, widestPage, said, Renders, text}
+use Rattle.page.specs.Lent.{decidedText, lentText, blank, Blocks, lentPage, Ready}
 
 -- texts that agree for each number of a list
-each-same : (f g : ℕ → List ℕ) (rs : List ℕ) → ((r : ℕ) → In r rs → f r ≡ g r) → each f rs ≡ each g rs
+pub each-same : (f g : ℕ → List ℕ) (rs : List ℕ) → ((r : ℕ) → In r rs → f r ≡ g r) → each f rs ≡ each g rs
 each-same f g [] h = refl
 each-same f g (r ∷ rs) h = ap₂ {C = List ℕ} _++_ (h r (here refl)) (each-same f g rs (λ q m. h q (there m)))
 
@@ -65,9 +68,13 @@ module _ (counts : Counts) (t : Tables) (roomy : Room t) (holding : Holding coun
   entry xs vals e l p h =
       ap (λ (z : List ℕ). getD z p 0) (sym e ∙ sets-eq vals xs 0 (omega arith)) ∙ List·getD-append vals (drop (0 + length vals) xs) 0 p h
 
+  -- the prefix of a number with the rows to which rounds lead
+  abbrev decidedOf : ℕ → List ℕ
+  decidedOf p = prefixText s p (early (mesh s p)) (late (mesh s p))
+
   -- the text of a prefix of the tables is that of the prefix of the snapshot
   prefix-text : (p : ℕ) → p < counts .prefixes
-      → lentText (counts .routers) (t .ids) (t .distances) (t .address) (t .bits) (t .routes) (whole t) p ≡ prefixOf s p
+      → lentText (counts .routers) (t .ids) (t .distances) (t .address) (t .bits) (t .routes) (whole t) p ≡ decidedOf p
   prefix-text p l =
       ap₂ (λ (a b : ℕ). decidedText a b (lentMesh (counts .routers) (t .ids) (t .distances) (cut (start (t .routes) p) (column (t .routes) p) (whole t))))
       (entry (t .address) addresses (ap (λ (u : Tables). u .address) (holding .held .1)) (omega (arith, n (λ q. q .address), few, roomy .prefixes .address)) p (omega (arith, n (λ q. q .address), below)))
@@ -100,11 +107,11 @@ module _ (counts : Counts) (t : Tables) (roomy : Room t) (holding : Holding coun
 
   -- the text of the tables is the text of the snapshot
   pub tables-text : headingLine (counts .routers) (counts .prefixes) ++ each (lentText (counts .routers) (t .ids) (t .distances) (t .address) (t .bits) (t .routes) (whole t)) (span 0 (counts .prefixes))
-      ≡ snapshotText s
+      ≡ snapshotText s (λ p. early (mesh s p)) (λ p. late (mesh s p))
   tables-text =
       ap (λ (x : List ℕ). headingLine (counts .routers) (counts .prefixes) ++ x)
-      (each-same (lentText (counts .routers) (t .ids) (t .distances) (t .address) (t .bits) (t .routes) (whole t)) (prefixOf s) (span 0 (counts .prefixes)) (λ p m. prefix-text p (omega (arith, in-span 0 (counts .prefixes) m))))
-      ∙ ap (λ (c : Counts). headingLine (c .routers) (c .prefixes) ++ each (prefixOf s) (span 0 (c .prefixes))) (holding .held .0)
+      (each-same (lentText (counts .routers) (t .ids) (t .distances) (t .address) (t .bits) (t .routes) (whole t)) decidedOf (span 0 (counts .prefixes)) (λ p m. prefix-text p (omega (arith, in-span 0 (counts .prefixes) m))))
+      ∙ ap (λ (c : Counts). headingLine (c .routers) (c .prefixes) ++ each decidedOf (span 0 (c .prefixes))) (holding .held .0)
 
 -- ---- what reading left
 
@@ -113,10 +120,9 @@ module _ (bs : List ℕ) (t : Tables) (enough : anyOf (short t) ≡ false) (byte
   record Filled (c : Counts) (u : Tables) : Type 0 where
     room : Room u
     holding : Holding c u
-    text : page bs ≡ snapshotText (holding .snapshot)
+    is-read : reading bs ≡ accepted (holding .snapshot)
 
-  filled-page : {r : Read} {c : Counts} {u : Tables} → r ≡ read.Accepted c → said r ≡ readAnswer bs t → u ≡ readTables bs t → Filled c u
-  unfolding page
+  filled-page : {r : Read} {c : Counts} {u : Tables} → r ≡ read.Accepted c → readSaid r ≡ readAnswer bs t → u ≡ readTables bs t → Filled c u
   filled-page {c = c} {u = u} told e f =
       let (s, is, counts) = was-accepted bs t enough told e in
       let valid = accepts bs s bytes .0 is .1 in
@@ -129,25 +135,28 @@ module _ (bs : List ℕ) (t : Tables) (enough : anyOf (short t) ≡ false) (byte
           valid = valid;
           held = subst₂ (λ (x : Counts) (y : Tables). Held x y s) (sym counts) (sym left) (filled-held valid roomy);
         };
-        text = ap answerText is;
+        is-read = is;
       }
 
   -- so its prefixes may be decided
-  pub ready : (r : Read) (u : Tables) (n : ℕ) → said r ≡ readAnswer bs t → u ≡ readTables bs t → widestPage ≤ n
+  pub ready : (r : Read) (u : Tables) (n : ℕ) → readSaid r ≡ readAnswer bs t → u ≡ readTables bs t → widestPage ≤ n
       → Ready r (u .ids) (u .distances) (u .address) (u .bits) (u .routes) (whole u) n
   ready r u n e f l = record {
     blocks = λ c is. let g = filled-page is e f in blocks c u (g .room) (g .holding);
     out-long = l;
   }
 
-  -- the page of what was read is the page of the bytes: a refusal is one line
-  pub page-is : (r : Read) (u : Tables) → said r ≡ readAnswer bs t → u ≡ readTables bs t
-      → lentPage r (u .ids) (u .distances) (u .address) (u .bits) (u .routes) (whole u) ≡ page bs
-  unfolding page
-  page-is (read.Accepted c) u e f = let g = filled-page refl e f in tables-text c u (g .room) (g .holding) ∙ sym (g .text)
-  page-is (read.Refused r at) u e f = sym (ap answerText (was-refused bs t enough {r = r} refl e))
+  -- the page of what was read is the page of the bytes
+  pub page-is : (r : Read) (u : Tables) → readSaid r ≡ readAnswer bs t → u ≡ readTables bs t
+      → Pages bs (lentPage r (u .ids) (u .distances) (u .address) (u .bits) (u .routes) (whole u))
+  page-is (read.Accepted c) u e f =
+      let g = filled-page refl e f in
+      let s = g .holding .snapshot in
+      subst (Pages bs) (sym (tables-text c u (g .room) (g .holding)))
+      (given s (g .is-read) (λ p. early (mesh s p)) (λ p. late (mesh s p)) (λ p below. forecast (mesh s p) (sound (g .holding .valid) p below)))
+  page-is (read.Refused r at) u e f = unread r at (was-refused bs t enough {r = r} refl e)
 
--- ---- one answer
+-- ---- what is answered
 
 -- a buffer for any page has room for one with so many prefixes
 pub page-room : {prefixes n : ℕ} → prefixes ≤ mostPrefixes → widestPage ≤ n → widest + widestBlock * prefixes ≤ n
@@ -155,14 +164,8 @@ page-room {prefixes} few l =
     let k : widestBlock * prefixes ≤ widestBlock * mostPrefixes = mul-le-mul-left widestBlock few in
     omega arith
 
-pub rendered-text : (bs out : List ℕ) {end : ℕ} {after : List ℕ} → widestPage ≤ length out → Puts out after 0 end (page bs) → Renders bs out (Text end) after
-rendered-text bs out {end} {after} l p =
-    let e : end ≡ length (page bs) = omega (arith, p .place) in
-    subst₂ (λ (n : ℕ) (x : List ℕ). Renders bs out (Text n) x) (sym e) (sym (p .bytes)) (text l)
-
--- two results that meet the promise are equal
-pub renders-one : {bs out : List ℕ} {a b : Rendered} {x y : List ℕ} → Renders bs out a x → Renders bs out b y → (a ≡ b) × (x ≡ y)
-renders-one (room h) (room k) = (refl, refl)
-renders-one (room h) (text k) = absurd (omega arith)
-renders-one (text h) (room k) = absurd (omega arith)
-renders-one (text h) (text k) = (refl, refl)
+pub rendered-text : (bs out : List ℕ) {page : List ℕ} {end : ℕ} {after : List ℕ} → widestPage ≤ length out → Pages bs page → Puts out after 0 end page
+    → Renders bs out (said (Text end)) after
+rendered-text bs out {page} {end} l made p =
+    let e : end ≡ length page = omega (arith, p .place) in
+    subst₂ (λ (n : ℕ) (x : List ℕ). Renders bs out (said (Text n)) x) (sym e) (sym (p .bytes)) (text l page made)

@@ -12,7 +12,8 @@ ghost use Rattle.model.specs.Columns.{columns, lentMesh};
 ghost use Rattle.outlook.specs.Outlook.{cut, Part};
 ghost use Rattle.text.specs.Text.{each, Puts};
 ghost use Rattle.lines.specs.Lines.{widest, routerLine};
-ghost use Rattle.page.specs.Page.{Rows, block, widestBlock, decidedText, lentText, blank, Blocks, lentPage, Ready, Renders};
+ghost use Rattle.page.specs.Page.{block, widestBlock, said, Renders};
+ghost use Rattle.page.specs.Lent.{Rows, decidedText, lentText, blank, Blocks, lentPage, Ready};
 
 // Puts the line of every router.
 fn put_routers(
@@ -218,7 +219,7 @@ pub const PAGE: usize = 332880;
 
 // Puts the page of a snapshot's bytes at the start of a buffer. ROOM, at place 0, where not every page would fit into it.
 pub fn render(input: &[u8], out: &mut [u8]) -> Rendered
-    ensures { λ r. ⌜ Renders (was input) (was out) r (is out) ⌝ }
+    ensures { λ r. ⌜ Renders (was input) (was out) (said r) (is out) ⌝ }
 {
     if out.len() < PAGE {
         return Rendered::Refused(Refusal::Room, 0);

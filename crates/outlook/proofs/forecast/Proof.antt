@@ -6,12 +6,12 @@ use mathlib.Core.Bool.{false}
 use denote.Ref.{now}
 use borrow.Author.Needs.{needs}
 use Rattle.refusal.specs.declared.Refusal.{Refusal}
+use Rattle.refusal.specs.Numbers.{refuses}
 use Rattle.snapshot.specs.declared.Counts.{Counts}
 use Rattle.snapshot.specs.Ranges.{anyOf}
 use Rattle.snapshot.specs.Tables.{Tables, tables, columns, Room}
 use Rattle.tables.specs.Judging.{Holding, numbered}
 use Rattle.tables.specs.Theorems.{verdict-good, verdict-refused}
-use Rattle.outlook.specs.declared.Outlook.the-variants.{Refused}
 use Rattle.outlook.specs.Outlook.{shortOf, Forecasts, room, noSnapshot, noPrefix}
 use Rattle.outlook.specs.OutlookLaws.{area-short, table-short, none-short, roomy, early-room, late-room, inside, fits-in, part-of, shown-given}
 use Rattle.outlook.proofs.forecast.Statement.{statement}
@@ -46,8 +46,8 @@ returns-3 c =
     let early = now (s .args .early) in
     let late = now (s .args .late) in
     ⊎-elim
-    (λ k. subst (λ (q : Refusal). Forecasts (s .args .counts) (lent s) (s .args .prefix) early late (Refused q 0) early late) (sym (k .0)) (room (table-short (lent s) early late (k .1))))
-    (λ k. subst (λ (q : Refusal). Forecasts (s .args .counts) (lent s) (s .args .prefix) early late (Refused q 0) early late) (sym (k .0))
+    (λ k. subst (λ (q : Refusal). Forecasts (s .args .counts) (lent s) (s .args .prefix) early late (refuses q 0) early late) (sym (k .0)) (room (table-short (lent s) early late (k .1))))
+    (λ k. subst (λ (q : Refusal). Forecasts (s .args .counts) (lent s) (s .args .prefix) early late (refuses q 0) early late) (sym (k .0))
     (noSnapshot (none-short (lent s) early late (long seen .if1 .left) (k .1)) (λ snapshot valid held. k .2 (record { snapshot = snapshot; valid = valid; held = held }))))
     (verdict-refused (seen .examine .ensures) (told .r .given .0 .0) (ap numbered (told .r .given .1)))
 

@@ -8,7 +8,8 @@ use Rattle.model.specs.Columns.{columns, lentMesh}
 use Rattle.model.specs.RowLaws.{start-first, start-next}
 use Rattle.outlook.specs.Outlook.{cut}
 use Rattle.text.specs.TextLaws.{puts-as, Lined, lined, lined-next, lined-end, lined-room}
-use Rattle.page.specs.Page.{widestBlock, decidedText, lentText}
+use Rattle.page.specs.Page.{widestBlock}
+use Rattle.page.specs.Lent.{decidedText, lentText}
 use Rattle.page.proofs.put_prefixes.Statement.{statement}
 use Rattle.page.proofs.put_prefixes.Tie as tie
 

@@ -11,7 +11,7 @@ use Rattle.scan.specs.declared.Read.{Read}
 use Rattle.scan.specs.declared.Read.the-variants as read
 use Rattle.text.specs.TextLaws.{puts-as, puts-then}
 use Rattle.lines.specs.Lines.{refusedLine}
-use Rattle.page.specs.Page.{lentPage}
+use Rattle.page.specs.Lent.{lentPage}
 use Rattle.page.specs.RenderLaws.{page-room}
 use Rattle.page.proofs.put_read.Statement.{statement}
 use Rattle.page.proofs.put_read.Tie as tie

@@ -4,7 +4,6 @@ use lib.Dec.{T}
 use lib.Pow.{areBytes}
 use borrow.Author.Needs.{needs}
 use Rattle.reader.specs.ReadLaws.{slice-bytes}
-use Rattle.text.specs.TextLaws.{puts-as}
 use Rattle.page.specs.Page.{room}
 use Rattle.page.specs.RenderLaws.{ready, page-is, rendered-text}
 use Rattle.page.proofs.render.Statement.{statement}
@@ -44,7 +43,7 @@ returns-2 c =
     let done = done-of put in
     let d = done .read-snapshot .ensures in
     let a = begun done .args in
-    rendered-text (now (a .input)) (now (a .out)) (long done .if1 .left) (puts-as (put .put-read .ensures) (page-is (now (a .input)) _ refl (bytes done) (done .read-snapshot .result) _ (d .0) (d .1)))
+    rendered-text (now (a .input)) (now (a .out)) (long done .if1 .left) (page-is (now (a .input)) _ refl (bytes done) (done .read-snapshot .result) _ (d .0) (d .1)) (put .put-read .ensures)
 
 pub render-spec : {M : Type 1} → statement M
 render-spec =

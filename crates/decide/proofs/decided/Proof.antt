@@ -1,7 +1,7 @@
 use borrow.Author.Needs.{needs}
-use Rattle.outlook.specs.OutlookLaws.{decided}
-use Rattle.outlook.proofs.decided.Statement.{statement}
-use Rattle.outlook.proofs.decided.Tie as tie
+use Rattle.decide.specs.DecideLaws.{decided}
+use Rattle.decide.proofs.decided.Statement.{statement}
+use Rattle.decide.proofs.decided.Tie as tie
 
 pub decided-spec : {M : Type 1} → statement M
 decided-spec =

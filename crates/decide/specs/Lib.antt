@@ -1,0 +1,2 @@
+pub mod Decide
+pub mod DecideLaws

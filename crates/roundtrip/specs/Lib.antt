@@ -1,0 +1,3 @@
+pub mod Trips
+pub mod TripLaws
+pub mod Theorems

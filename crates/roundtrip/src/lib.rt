@@ -1,0 +1,1 @@
+// Reading and writing undo each other: open specs/Theorems.antt. No code.
