@@ -87,25 +87,25 @@ module _ (checks : List Check) (at : ℕ) (next : Cursor) (v : ℕ) (go : Unit {
 -- ---- the number of routers
 
 module _ (bs : List ℕ) where
-  abbrev counted : ℕ
-  counted = getD (valuesAt countForm bs 0) 0 0
+  abbrev countAt : ℕ
+  countAt = getD (valuesAt countForm bs 0) 0 0
 
-  pub count-stop : {x : Step} {r : Refusal} {place : ℕ} → x ≡ step.Refused r place → stepSaid x ≡ stepOf (countRecord (drop 0 bs)) 0 (after begin countForm) counted
+  pub count-stop : {x : Step} {r : Refusal} {place : ℕ} → x ≡ step.Refused r place → stepSaid x ≡ stepOf (countRecord (drop 0 bs)) 0 (after begin countForm) countAt
       → reading bs ≡ refused r place
-  count-stop is e = reading-count bs ∙ step-refused (countRecord bs) 0 (after begin countForm) counted _ e is
+  count-stop is e = reading-count bs ∙ step-refused (countRecord bs) 0 (after begin countForm) countAt _ e is
 
-  pub count-next : {x : Step} {c : Cursor} {n : ℕ} (ids : List ℕ) → mostRouters ≤ length ids → x ≡ step.Took c n → stepSaid x ≡ stepOf (countRecord (drop 0 bs)) 0 (after begin countForm) counted
+  pub count-next : {x : Step} {c : Cursor} {n : ℕ} (ids : List ℕ) → mostRouters ≤ length ids → x ≡ step.Took c n → stepSaid x ≡ stepOf (countRecord (drop 0 bs)) 0 (after begin countForm) countAt
       → Routers bs n 0 ids c
   unfolding countRecord
-  count-next {c = c} {n = n} ids room took e =
-      let (h, at, is, go) = step-took (countRecord bs) 0 (after begin countForm) counted
-      (λ _. routers counted counted [] (size countForm) (drop (size countForm) bs)) e took in
-      let (low, high) = count-range counted (passed countForm [] countValues bs h .good .0) in
+  count-next {c = c} {n = n} ids room taken e =
+      let (h, at, is, go) = step-took (countRecord bs) 0 (after begin countForm) countAt
+      (λ _. routers countAt countAt [] (size countForm) (drop (size countForm) bs)) e taken in
+      let (low, high) = count-range countAt (passed countForm [] countValues bs h .good .0) in
       let few : n ≤ mostRouters = rw is high in
       record {
         within = zero-le;
         room = omega arith;
-        same = rw (at, is) (reading-count bs ∙ go ∙ ap (λ (m : ℕ). routers counted m [] (size countForm) (drop (size countForm) bs)) (let z : counted ≡ counted - 0 = omega arith in z));
+        same = rw (at, is) (reading-count bs ∙ go ∙ ap (λ (m : ℕ). routers countAt m [] (size countForm) (drop (size countForm) bs)) (let z : countAt ≡ countAt - 0 = omega arith in z));
         records = rw at refl;
         low = rw at (omega arith);
       }
@@ -130,9 +130,9 @@ module _ {bs : List ℕ} {n i : ℕ} {ids : List ℕ} {c : Cursor} (s : Routers 
 
   pub routers-next : {x : Step} {next : Cursor} {id : ℕ} → i < n → x ≡ step.Took next id → stepSaid x ≡ stepOf routerChecksAt (c .at) (after c routerForm) idAt
       → Routers bs n (i + 1) (set ids i id) next
-  routers-next {next = next} {id = id} l took e =
+  routers-next {next = next} {id = id} l taken e =
       let (h, at, is, go) = step-took routerChecksAt (c .at) (after c routerForm) idAt
-      (λ _. routers n (n - suc i) (take i ids ++ (idAt ∷ [])) (c .at + size routerForm) (drop (c .at + size routerForm) bs)) e took in
+      (λ _. routers n (n - suc i) (take i ids ++ (idAt ∷ [])) (c .at + size routerForm) (drop (c .at + size routerForm) bs)) e taken in
       let room : n ≤ length ids = s .room in
       let long = length-set ids i id in
       let more : take (i + 1) (set ids i id) ≡ take i ids ++ (idAt ∷ []) =
@@ -185,9 +185,9 @@ module _ {bs : List ℕ} {n : ℕ} {c : Cursor} (p : Pair) (more : List Pair) (s
   distances-stop is e = distances-now ∙ step-refused distanceChecksAt (c .at) (after c distanceForm) distanceAt _ e is
 
   distances-next : {x : Step} {next : Cursor} {d : ℕ} → x ≡ step.Took next d → stepSaid x ≡ stepOf distanceChecksAt (c .at) (after c distanceForm) distanceAt → Distances bs n more next
-  distances-next took e =
+  distances-next taken e =
       let (h, at, is, go) = step-took distanceChecksAt (c .at) (after c distanceForm) distanceAt
-      (λ _. distances more (s .ids) (s .ds ++ (distanceAt ∷ [])) (c .at + size distanceForm) (drop (c .at + size distanceForm) bs)) e took in
+      (λ _. distances more (s .ids) (s .ds ++ (distanceAt ∷ [])) (c .at + size distanceForm) (drop (c .at + size distanceForm) bs)) e taken in
       let count : c .records ≡ 1 + n + length (s .ds) = s .records in
       let below : c .records ≤ c .at = s .low in
       let one = length-snoc (s .ds) distanceAt in
@@ -373,11 +373,11 @@ module _ {bs : List ℕ} {c : Cursor} {k : Sofar} (i : Items bs c k) where
     pub prefix-next : {x : PrefixStep} {next : Cursor} {p : Network} → x ≡ prefixStep.Took next p → prefixSaid x ≡ prefixStepOf
         → (k .prefixes < mostPrefixes) × Items bs next (morePrefix k p) × (c .at < next .at) × (next .at ≤ length bs)
     unfolding prefixRecord
-    prefix-next {x} {next} {p} took e =
+    prefix-next {x} {next} {p} taken e =
         prefix-cases (prefixSaid x) e
-        (λ f d h. absurd (gives-refuses f at _ (sym (d ∙ ap prefixSaid took))))
+        (λ f d h. absurd (gives-refuses f at _ (sym (d ∙ ap prefixSaid taken))))
         (λ hold d h.
-        let same : prefixStep.Took (after c prefixForm) (networkAt bs at) ≡ prefixStep.Took next p = prefix-tells (prefixStep.Took (after c prefixForm) (networkAt bs at)) x d ∙ took in
+        let same : prefixStep.Took (after c prefixForm) (networkAt bs at) ≡ prefixStep.Took next p = prefix-tells (prefixStep.Took (after c prefixForm) (networkAt bs at)) x d ∙ taken in
         let to : after c prefixForm ≡ next = cc in
         let is : networkAt bs at ≡ p = cc in
         let q = passed prefixForm (prefixExtra (i .s)) (prefixValues (i .s)) (drop at bs) hold in
@@ -432,11 +432,11 @@ module _ {bs : List ℕ} {c : Cursor} {k : Sofar} (i : Items bs c k) where
     pub route-next : {x : RouteStep} {next : Cursor} {r : Route} → x ≡ routeStep.Took next r → routeSaid x ≡ routeStepOf
         → (k .routes < mostRoutes) × (k .inside < mostInPrefix) × Items bs next (moreRoute k r) × (c .at < next .at) × (next .at ≤ length bs)
     unfolding routeRecord
-    route-next {x} {next} {r} took e =
+    route-next {x} {next} {r} taken e =
         route-cases (routeSaid x) e
-        (λ f d h. absurd (gives-refuses f at _ (sym (d ∙ ap routeSaid took))))
+        (λ f d h. absurd (gives-refuses f at _ (sym (d ∙ ap routeSaid taken))))
         (λ hold d h.
-        let same : routeStep.Took (after c routeForm) (routeAt bs at) ≡ routeStep.Took next r = route-tells (routeStep.Took (after c routeForm) (routeAt bs at)) x d ∙ took in
+        let same : routeStep.Took (after c routeForm) (routeAt bs at) ≡ routeStep.Took next r = route-tells (routeStep.Took (after c routeForm) (routeAt bs at)) x d ∙ taken in
         let to : after c routeForm ≡ next = cc in
         let is : routeAt bs at ≡ r = cc in
         let q = passed routeForm (routeExtra (i .s)) (routeValues (i .s)) (drop at bs) hold in
