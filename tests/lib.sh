@@ -16,12 +16,17 @@ check() {
     fi
 }
 
-# cargo_tests DIR: builds a cargo project, runs its tests and adds cargo's own numbers to the sum.
+# built PACKAGE: builds a program of the cargo workspace and prints where it is.
+built() {
+    cargo build --quiet --release -p "$1" && echo "target/cargo/release/$1"
+}
+
+# cargo_tests PACKAGE: builds a package of the cargo workspace, runs its tests and adds cargo's own numbers to the sum.
 # A build that fails, or a run that counts nothing or ends badly with no failure counted, is a failure itself.
 cargo_tests() {
     local log status before=$((passed + failed)) failed_before=$failed result
     log=$(mktemp)
-    (cd "$1" && cargo build --release --offline && cargo test --release --offline --no-fail-fast) 2>&1 | tee "$log"
+    { cargo build --release -p "$1" && cargo test --release -p "$1" --no-fail-fast; } 2>&1 | tee "$log"
     status=${PIPESTATUS[0]}
     while read -r result; do
         [[ $result =~ ([0-9]+)\ passed\;\ ([0-9]+)\ failed ]] || continue
