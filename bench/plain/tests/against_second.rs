@@ -55,7 +55,7 @@ fn one_more_than_the_limit_is_full() {
         (prefixes(1, 257), 14 + 256 * 24),
         (prefixes(4, 256) + "prefix 4.0.0.0/8\nroute 0\n", 8 + 5 * 6 + 1024 * 24),
     ] {
-        let bytes = text::make(&format!("router 1\n{body}")).expect("the notation is sound").bytes;
+        let bytes = text::make_from_sheet(&format!("router 1\n{body}")).expect("the notation is sound").bytes;
         assert_eq!(printed(&bytes), format!("refused 8 {place}\n"));
     }
 }
