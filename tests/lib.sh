@@ -1,4 +1,4 @@
-# Shared by the scripts under tests/: the sum of what passed and failed, and how it is reported.
+# Shared by the gate and the scripts under tests/ and bench/: the sum of what passed and failed, and how it is reported.
 # A script sources this from the top of the repository, adds to the sum, and ends with 'report'.
 
 passed=0
@@ -41,9 +41,10 @@ cargo_tests() {
 }
 
 # added COMMAND ..: runs a command whose last line is 'N passed, M failed' and adds both to the sum.
-# One that ends otherwise, or badly with no failure counted, is a failure itself.
+# One that cannot be run, ends otherwise, or ends badly with no failure counted, is a failure itself.
 added() {
     local log status last
+    echo "== $*"
     log=$(mktemp)
     "$@" 2>&1 | tee "$log"
     status=${PIPESTATUS[0]}
