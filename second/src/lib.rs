@@ -16,6 +16,7 @@ pub mod seed;
 pub mod show;
 pub mod snapshot;
 pub mod stable;
+pub mod tables;
 pub mod text;
 mod words;
 pub mod writer;

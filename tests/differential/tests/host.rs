@@ -1,7 +1,7 @@
 //! The host call against the second program: the number returned and every byte of the area. All inputs come from
 //! seeds or from every place of a small snapshot, so each run asks the same.
 
-use differential::{Tally, AREA};
+use differential::host::{Tally, AREA};
 use second::record::cut;
 use second::{damage, random, text, writer};
 
