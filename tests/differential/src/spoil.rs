@@ -48,7 +48,7 @@ fn count(seeded: &mut Seeded, question: &mut Question) {
     *count = near(seeded, *count);
 }
 
-/// The used entries of a table, by the counts as they are now and as far as there is room.
+/// The used entries of a table in rising order, by the counts as they are now and as far as there is room.
 fn used(question: &Question, table: usize) -> Vec<usize> {
     let Counts { routers, prefixes, routes } = question.counts;
     let below = |count: u32| (0..LIMITS[table].min(count as usize)).collect::<Vec<usize>>();
@@ -97,7 +97,8 @@ fn two_used(seeded: &mut Seeded, question: &Question, table: usize) -> Option<(u
 pub fn unused_value(seeded: &mut Seeded, question: &mut Question) {
     let table = seeded.below(LIMITS.len());
     let used = used(question, table);
-    let unused: Vec<usize> = (0..question.lent[table].len()).filter(|entry| !used.contains(entry)).collect();
+    let unused: Vec<usize> =
+        (0..question.lent[table].len()).filter(|entry| used.binary_search(entry).is_err()).collect();
     if !unused.is_empty() {
         let entry = seeded.pick(&unused);
         question.lent[table][entry] = seeded.pick(&VALUES);
