@@ -1,4 +1,4 @@
-# Shared by the scripts under tests/: the sum of what passed and failed, and how it is reported.
+# Shared by the gate and the scripts under tests/ and bench/: the sum of what passed and failed, and how it is reported.
 # A script sources this from the top of the repository, adds to the sum, and ends with 'report'.
 
 passed=0
@@ -16,12 +16,17 @@ check() {
     fi
 }
 
-# cargo_tests DIR: builds a cargo project, runs its tests and adds cargo's own numbers to the sum.
+# built PACKAGE: builds a program of the cargo workspace and prints where it is.
+built() {
+    cargo build --quiet --release -p "$1" && echo "target/cargo/release/$1"
+}
+
+# cargo_tests PACKAGE: builds a package of the cargo workspace, runs its tests and adds cargo's own numbers to the sum.
 # A build that fails, or a run that counts nothing or ends badly with no failure counted, is a failure itself.
 cargo_tests() {
     local log status before=$((passed + failed)) failed_before=$failed result
     log=$(mktemp)
-    (cd "$1" && cargo build --release --offline && cargo test --release --offline --no-fail-fast) 2>&1 | tee "$log"
+    { cargo build --release -p "$1" && cargo test --release -p "$1" --no-fail-fast; } 2>&1 | tee "$log"
     status=${PIPESTATUS[0]}
     while read -r result; do
         [[ $result =~ ([0-9]+)\ passed\;\ ([0-9]+)\ failed ]] || continue
@@ -36,9 +41,10 @@ cargo_tests() {
 }
 
 # added COMMAND ..: runs a command whose last line is 'N passed, M failed' and adds both to the sum.
-# One that ends otherwise, or badly with no failure counted, is a failure itself.
+# One that cannot be run, ends otherwise, or ends badly with no failure counted, is a failure itself.
 added() {
     local log status last
+    echo "== $*"
     log=$(mktemp)
     "$@" 2>&1 | tee "$log"
     status=${PIPESTATUS[0]}

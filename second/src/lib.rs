@@ -3,16 +3,20 @@
 
 pub mod damage;
 pub mod decide;
+mod distance_lines;
 pub mod forecast;
 pub mod host;
 pub mod print;
 pub mod random;
 pub mod reader;
 pub mod record;
+mod route_line;
 pub mod search;
 pub mod seed;
 pub mod show;
 pub mod snapshot;
 pub mod stable;
+pub mod tables;
 pub mod text;
+mod words;
 pub mod writer;

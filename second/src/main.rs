@@ -1,12 +1,14 @@
 //! The commands. Each reads standard input where it needs bytes or text, and writes to standard output.
 
-use second::{damage, host, print, random, reader, show, text, writer};
+use second::{damage, host, print, random, show, text, writer};
 use std::io::{self, Read, Write};
 use std::process::ExitCode;
 
 const USAGE: &str = "usage:
   second forecast               snapshot in, printed forecast out
-  second make [--unjudged]      text in, snapshot out; refused snapshots only with --unjudged
+  second make [OPTION..]        text in, snapshot out
+      --unjudged                also one that would be refused
+      --sheet                   what the text leaves out is as in document 01's 'Sums on paper', for test cases
   second show                   snapshot in, text out
   second host PREFIX LENGTH     snapshot in; what the host call returns and leaves in an area of LENGTH bytes a5
   second damage SEED            snapshot in, damaged copy out
@@ -35,8 +37,7 @@ fn complain(fault: &str) -> ExitCode {
 fn run(words: &[&str]) -> Result<Vec<u8>, String> {
     match *words {
         ["forecast"] => Ok(print::printed(&input()?).into_bytes()),
-        ["make"] => made(true),
-        ["make", "--unjudged"] => made(false),
+        ["make", ref options @ ..] => made(options),
         ["show"] => Ok(show::show(&input()?).into_bytes()),
         ["host", prefix, length] => hosted(number(prefix)?, number(length)?),
         ["damage", seed] => Ok(damage::damage(&input()?, number(seed)?)),
@@ -55,16 +56,17 @@ fn number(word: &str) -> Result<u64, String> {
     word.parse().map_err(|_| format!("'{word}' is not a number"))
 }
 
-fn made(judged: bool) -> Result<Vec<u8>, String> {
-    let text = String::from_utf8(input()?).map_err(|fault| fault.to_string())?;
-    let made = text::make(&text).map_err(|fault| fault.to_string())?;
-    match reader::read(&made.bytes) {
-        Err(refusal) if judged => {
-            let line = made.line(refusal.place);
-            Err(format!("line {line}: the snapshot would be {refusal} ({:?})", refusal.number))
-        }
-        _ => Ok(made.bytes),
+fn made(options: &[&str]) -> Result<Vec<u8>, String> {
+    if options.iter().any(|option| !["--unjudged", "--sheet"].contains(option)) {
+        return Err(USAGE.to_string());
     }
+    let text = String::from_utf8(input()?).map_err(|fault| fault.to_string())?;
+    let make = if options.contains(&"--sheet") { text::make_from_sheet } else { text::make };
+    let made = make(&text).and_then(|made| match options.contains(&"--unjudged") {
+        true => Ok(made.bytes),
+        false => made.judged(),
+    });
+    made.map_err(|fault| fault.to_string())
 }
 
 fn hosted(prefix: u64, length: u64) -> Result<Vec<u8>, String> {

@@ -62,8 +62,7 @@ impl Snapshot {
     }
 }
 
-/// The numbers for a no that reading, forecasting and the host call can give here. 11 (TABLE) is not
-/// among them: this program lends no tables.
+/// The numbers for a no.
 #[derive(Clone, Copy, Debug, PartialEq, Eq)]
 pub enum No {
     Room = 1,
@@ -76,6 +75,7 @@ pub enum No {
     Full = 8,
     Count = 9,
     Tail = 10,
+    Table = 11,
     NoPrefix = 12,
 }
 

@@ -1,16 +1,18 @@
 //! The text notation: from lines a planner can write to a snapshot's bytes. README.md describes it.
-//! Only what cannot be encoded is a fault here; whether the bytes are a sound snapshot is the reader's business.
+//! A fault is what cannot be encoded, what is said twice, and what nobody has said; whether the bytes are a sound
+//! snapshot is the reader's business.
 
+use crate::distance_lines::{Distances, Said};
+use crate::reader::read;
 use crate::record::{encode, Record};
-use crate::snapshot::Route;
+use crate::route_line::route;
+use crate::snapshot::ROUTERS;
+use crate::words::{address, byte, number};
 use crate::writer::network;
 use std::fmt;
 
-/// The distance of every pair that no line names.
-const DISTANCE: u32 = 1;
-
-/// The peer address of a prefix's row 0 unless the line names one: 192.0.2.1.
-const FIRST_PEER: u32 = 0xc000_0201;
+/// The distance of all pairs on document 01's sheet.
+const SHEET_DISTANCE: u32 = 1;
 
 /// What is wrong with a line.
 #[derive(Debug, PartialEq, Eq)]
@@ -26,16 +28,31 @@ impl fmt::Display for Fault {
 }
 
 /// The bytes made, and for each piece of them its offset and the line it came from.
+#[derive(Debug, Default)]
 pub struct Made {
     pub bytes: Vec<u8>,
     lines: Vec<(usize, usize)>,
+    /// Whether the text has neither routers nor bytes of its own.
+    rootless: bool,
 }
 
 impl Made {
-    /// The line that made the record at this place.
-    pub fn line(&self, place: usize) -> usize {
+    /// The bytes, if they are a sound snapshot; otherwise the refusal, with the line that made the refused record.
+    pub fn judged(self) -> Result<Vec<u8>, Fault> {
+        match read(&self.bytes) {
+            Ok(_) => Ok(self.bytes),
+            Err(_) if self.rootless => Err(Fault { line: 1, what: "no router is named".to_string() }),
+            Err(refusal) => {
+                let what = format!("the snapshot would be {refusal} ({:?})", refusal.number);
+                Err(Fault { line: self.line(refusal.place), what })
+            }
+        }
+    }
+
+    /// The line that made the record at this place, or the last one before it.
+    fn line(&self, place: usize) -> usize {
         let before = self.lines.iter().take_while(|(offset, _)| *offset <= place);
-        before.last().map_or(0, |(_, line)| *line)
+        before.last().map_or(1, |(_, line)| *line)
     }
 
     fn push(&mut self, line: usize, piece: &[u8]) {
@@ -44,26 +61,36 @@ impl Made {
     }
 }
 
+/// The bytes of a text that says everything itself.
 pub fn make(text: &str) -> Result<Made, Fault> {
-    let mut draft = Draft { default: DISTANCE, ends: true, ..Draft::default() };
+    drafted(text, false)?.made()
+}
+
+/// The same for a test case: what is left out is as in document 01's 'Sums on paper'.
+pub fn make_from_sheet(text: &str) -> Result<Made, Fault> {
+    drafted(text, true)?.made()
+}
+
+fn drafted(text: &str, on_sheet: bool) -> Result<Draft, Fault> {
+    let mut draft = Draft { on_sheet, ends: true, ..Draft::default() };
     for (line, content) in (1..).zip(text.lines()) {
         let words = content.split('#').next().unwrap_or("").split_whitespace().collect::<Vec<_>>();
         draft.take(line, &words).map_err(|what| Fault { line, what })?;
         draft.last_line = line;
     }
-    draft.made()
+    Ok(draft)
 }
 
 /// What the lines so far have said.
 #[derive(Default)]
 struct Draft {
-    ids: Vec<u32>,
-    router_line: usize,
-    default: u32,
-    /// Distances in the order given, so that a later line overrules an earlier one: line, from, to, distance.
-    distances: Vec<(usize, usize, usize, u32)>,
+    on_sheet: bool,
+    ids: Vec<Said>,
+    distances: Distances,
     /// Everything after the network: line and bytes.
     pieces: Vec<(usize, Vec<u8>)>,
+    /// Whether some of the pieces are bytes as they stand.
+    raw: bool,
     /// The row that the next route of this prefix will have.
     row: u32,
     /// Whether an end record is to be added.
@@ -78,8 +105,8 @@ impl Draft {
         };
         match keyword {
             "router" => self.take_routers(line, values),
-            "distance" => self.take_distance(line, values),
-            "distances" => self.take_distances(line, values),
+            "distance" => self.distances.take_one(line, values),
+            "distances" => self.distances.take_row(line, values),
             "prefix" => self.take_prefix(line, values),
             "route" => self.take_route(line, values),
             "raw" => self.take_raw(line, values),
@@ -89,41 +116,14 @@ impl Draft {
     }
 
     fn take_routers(&mut self, line: usize, values: &[&str]) -> Result<(), String> {
-        for value in values {
-            self.ids.push(address(value)?);
+        if values.is_empty() {
+            return Err("expected 'router' and one id or more".to_string());
         }
-        self.router_line = line;
+        for value in values {
+            self.ids.push(Said { line, value: address(value)? });
+        }
         if self.ids.len() > 255 {
             return Err("the number of routers does not fit its byte".to_string());
-        }
-        Ok(())
-    }
-
-    fn take_distance(&mut self, line: usize, values: &[&str]) -> Result<(), String> {
-        match *values {
-            [distance] => self.default = number(distance, u32::MAX)?,
-            [from, to, distance] => {
-                let (from, to, distance) = (index(from)?, index(to)?, number(distance, u32::MAX)?);
-                self.distances.push((line, from, to, distance));
-                self.distances.push((line, to, from, distance));
-            }
-            [from, "to", to, distance] => {
-                self.distances.push((line, index(from)?, index(to)?, number(distance, u32::MAX)?));
-            }
-            _ => return Err("expected 'distance D', 'distance A B D' or 'distance A to B D'".to_string()),
-        }
-        Ok(())
-    }
-
-    fn take_distances(&mut self, line: usize, values: &[&str]) -> Result<(), String> {
-        let (from, values) = values.split_first().ok_or("expected 'distances A' and a value for each router")?;
-        let from = index(from)?;
-        for (to, value) in values.iter().enumerate() {
-            match (*value == "-", from == to) {
-                (true, true) => {}
-                (false, false) => self.distances.push((line, from, to, number(value, u32::MAX)?)),
-                _ => return Err(format!("'-' must stand for router {from} itself, and for it alone")),
-            }
         }
         Ok(())
     }
@@ -141,47 +141,38 @@ impl Draft {
     }
 
     fn take_route(&mut self, line: usize, values: &[&str]) -> Result<(), String> {
-        let (router, fields) = values.split_first().ok_or("expected 'route ROUTER' and its fields")?;
-        let mut route = usual_route(number(router, 255)? as u8, self.row);
-        for field in fields.chunks(2) {
-            match *field {
-                [name, value] => set_field(&mut route, name, value)?,
-                _ => return Err(format!("'{}' has no value", field[0])),
-            }
-        }
+        let route = route(values, self.row, self.on_sheet)?;
         self.row += 1;
         self.pieces.push((line, encode(&Record::Route(route))));
         Ok(())
     }
 
     fn take_raw(&mut self, line: usize, values: &[&str]) -> Result<(), String> {
-        let byte = |value: &&str| {
-            let two_digits = value.len() == 2 && value.chars().all(|digit| digit.is_ascii_hexdigit());
-            let byte = u8::from_str_radix(value, 16).ok().filter(|_| two_digits);
-            byte.ok_or(format!("'{value}' is not a byte of two hexadecimal digits"))
-        };
-        let bytes = values.iter().map(byte).collect::<Result<Vec<u8>, String>>()?;
+        if values.is_empty() {
+            return Err("expected 'raw' and one byte or more".to_string());
+        }
+        let bytes = values.iter().map(|value| byte(value)).collect::<Result<Vec<u8>, String>>()?;
+        self.raw = true;
         self.pieces.push((line, bytes));
         Ok(())
     }
 
+    /// Without an end record there is a piece all the same, so that the input's end is traced to this line.
     fn take_end(&mut self, line: usize, values: &[&str]) -> Result<(), String> {
-        match *values {
-            ["none"] => {}
-            [records] => self.pieces.push((line, encode(&Record::End(number(records, u32::MAX)?)))),
+        let piece = match *values {
+            ["none"] => Vec::new(),
+            [records] => encode(&Record::End(number(records, u32::MAX)?)),
             _ => return Err("expected 'end RECORDS' or 'end none'".to_string()),
-        }
+        };
+        self.pieces.push((line, piece));
         self.ends = false;
         Ok(())
     }
 
     fn made(self) -> Result<Made, Fault> {
-        let mut made = Made { bytes: Vec::new(), lines: Vec::new() };
-        if !self.ids.is_empty() {
-            let distances = self.distance_table()?;
-            for record in network(&self.ids, &distances) {
-                made.push(self.line_of(&record), &encode(&record));
-            }
+        let mut made = Made { rootless: self.ids.is_empty() && !self.raw, ..Made::default() };
+        for (line, record) in self.network()? {
+            made.push(line, &encode(&record));
         }
         for (line, piece) in &self.pieces {
             made.push(*line, piece);
@@ -193,84 +184,36 @@ impl Draft {
         Ok(made)
     }
 
-    fn distance_table(&self) -> Result<Vec<Vec<u32>>, Fault> {
-        let routers = self.ids.len();
-        let mut table = vec![vec![self.default; routers]; routers];
-        for &(line, from, to, distance) in &self.distances {
-            if from.max(to) >= routers {
-                return Err(Fault { line, what: format!("there is no router {}", from.max(to)) });
-            }
-            if from == to {
-                return Err(Fault { line, what: format!("router {from} has no distance to itself") });
-            }
-            table[from][to] = distance;
+    /// The records of routers and distances, each with the line that decided it.
+    fn network(&self) -> Result<Vec<(usize, Record)>, Fault> {
+        let unsaid = |from: usize, to: usize| self.unsaid(from, to);
+        let table = self.distances.table(self.ids.len(), unsaid).map_err(|(line, what)| Fault { line, what })?;
+        if self.ids.is_empty() {
+            return Ok(Vec::new());
         }
-        Ok(table)
-    }
-
-    /// The line that decided a record of the network: the last one that names the distance, or that lists routers.
-    fn line_of(&self, record: &Record) -> usize {
-        let names = |&&(_, from, to, _): &&(usize, usize, usize, u32)| match *record {
-            Record::Distance { from: a, to: b, .. } => (from, to) == (usize::from(a), usize::from(b)),
-            _ => false,
+        let ids: Vec<u32> = self.ids.iter().map(|said| said.value).collect();
+        let values = |row: &Vec<Said>| row.iter().map(|said| said.value).collect();
+        let distances: Vec<Vec<u32>> = table.iter().map(values).collect();
+        let line = |record: &Record| match *record {
+            Record::Id { index, .. } => self.ids[usize::from(index)].line,
+            Record::Distance { from, to, .. } => table[usize::from(from)][usize::from(to)].line,
+            _ => self.router_line(ROUTERS),
         };
-        self.distances.iter().rev().find(names).map_or(self.router_line, |(line, ..)| *line)
+        Ok(network(&ids, &distances).into_iter().map(|record| (line(&record), record)).collect())
     }
-}
 
-/// A route as in 'Sums on paper': only router, AS, MED and what else a case names need be written.
-fn usual_route(router: u8, row: u32) -> Route {
-    Route {
-        router,
-        neighbour_as: 1,
-        preference: 100,
-        path: 2,
-        origin: 0,
-        mark: 1,
-        med: 0,
-        neighbour_id: 1 + row,
-        peer: FIRST_PEER + row,
+    /// The line that names a router, or the last one that names any.
+    fn router_line(&self, index: usize) -> usize {
+        self.ids.get(index).or(self.ids.last()).map_or(1, |said| said.line)
     }
-}
 
-fn set_field(route: &mut Route, name: &str, value: &str) -> Result<(), String> {
-    match (name, value) {
-        ("as", _) => route.neighbour_as = number(value, 0xffff)?,
-        ("preference", _) => route.preference = number(value, u32::MAX)?,
-        ("path", _) => route.path = number(value, 0xffff)? as u16,
-        ("origin", "igp") => route.origin = 0,
-        ("origin", "egp") => route.origin = 1,
-        ("origin", "incomplete") => route.origin = 2,
-        ("origin", _) => route.origin = number(value, 255)? as u8,
-        ("med", "absent") => (route.mark, route.med) = (0, 0),
-        ("med", _) => (route.mark, route.med) = (1, number(value, u32::MAX)?),
-        ("mark", _) => route.mark = number(value, 255)? as u8,
-        ("id", _) => route.neighbour_id = address(value)?,
-        ("peer", _) => route.peer = address(value)?,
-        _ => return Err(format!("a route has no field '{name}'")),
-    }
-    Ok(())
-}
-
-/// A number that fits: at most `largest`.
-fn number(word: &str, largest: u32) -> Result<u32, String> {
-    let digits = !word.is_empty() && word.chars().all(|digit| digit.is_ascii_digit());
-    let value = word.parse::<u32>().ok().filter(|&value| digits && value <= largest);
-    value.ok_or(format!("'{word}' is not a number from 0 to {largest}"))
-}
-
-fn index(word: &str) -> Result<usize, String> {
-    Ok(number(word, 255)? as usize)
-}
-
-/// An id or address, dotted or as one number.
-fn address(word: &str) -> Result<u32, String> {
-    if !word.contains('.') {
-        return number(word, u32::MAX);
-    }
-    let parts = word.split('.').map(|part| number(part, 255)).collect::<Result<Vec<u32>, String>>();
-    match parts.as_deref() {
-        Ok(&[a, b, c, d]) => Ok((a << 24) | (b << 16) | (c << 8) | d),
-        _ => Err(format!("'{word}' is not an address such as 192.0.2.1")),
+    /// A distance that no line gives: that of the sheet, or a fault of the line that named the later of the two routers.
+    fn unsaid(&self, from: usize, to: usize) -> Result<Said, (usize, String)> {
+        let line = self.router_line(from.max(to));
+        if self.on_sheet {
+            Ok(Said { line, value: SHEET_DISTANCE })
+        } else {
+            Err((line, format!("no line has a distance from {from} to {to}")))
+        }
     }
 }

@@ -16,11 +16,11 @@ pub fn write(snapshot: &Snapshot) -> Vec<u8> {
 /// The records of kinds 1 to 3.
 pub fn network(ids: &[u32], distances: &[Vec<u32>]) -> Vec<Record> {
     let mut records = vec![Record::Routers(ids.len() as u8)];
-    for (index, &id) in (0..).zip(ids) {
+    for (index, &id) in (0..=u8::MAX).zip(ids) {
         records.push(Record::Id { index, id });
     }
-    for (from, row) in (0..).zip(distances) {
-        for (to, &distance) in (0..).zip(row) {
+    for (from, row) in (0..=u8::MAX).zip(distances) {
+        for (to, &distance) in (0..=u8::MAX).zip(row) {
             if from != to {
                 records.push(Record::Distance { from, to, distance });
             }

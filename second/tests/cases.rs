@@ -9,7 +9,7 @@ use second::stable::{all_stable, extremes};
 use second::{search, text};
 
 fn bytes(notation: &str) -> Vec<u8> {
-    text::make(notation).expect("the notation is sound").bytes
+    text::make_from_sheet(notation).expect("the notation is sound").bytes
 }
 
 /// Checks the lines below the prefix line, and that both ways of forecasting agree.
@@ -117,7 +117,7 @@ fn p9_the_lower_peer_address() {
 #[test]
 fn p10_the_lower_router_id() {
     let routes = "route 0 as 1\nroute 1 as 2";
-    let notation = format!("router 1 2 3\ndistance 7\nprefix 198.51.100.0/24\n{routes}");
+    let notation = format!("router 1 2 3\ndistance default 7\nprefix 198.51.100.0/24\n{routes}");
     forecasts(&notation, "settled", &["own 0", "own 1", "via 0 0"]);
 }
 
@@ -148,7 +148,7 @@ fn an_own_route_goes_by_the_neighbour_id_before_the_peer() {
 
 #[test]
 fn an_own_route_comes_before_one_at_distance_0_with_lower_ids() {
-    let notation = "router 9 1\ndistance 0\nprefix 198.51.100.0/24\nroute 0 as 1 id 7\nroute 1 as 2 id 2";
+    let notation = "router 9 1\ndistance default 0\nprefix 198.51.100.0/24\nroute 0 as 1 id 7\nroute 1 as 2 id 2";
     forecasts(notation, "settled", &["own 0", "own 1"]);
 }
 

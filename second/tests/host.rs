@@ -9,7 +9,7 @@ const P5: &str = "router 1 2 3\ndistance 0 1 4\ndistance 0 2 5\ndistance 1 2 9\n
 route 0 as 65001 med 0 id 2\nroute 0 as 65002 med 5 id 1\nroute 1 as 65002 med 0 id 2\nroute 1 as 65001 med 5 id 1";
 
 fn p5() -> Vec<u8> {
-    text::make(P5).expect("the notation is sound").bytes
+    text::make_from_sheet(P5).expect("the notation is sound").bytes
 }
 
 #[test]
@@ -23,7 +23,7 @@ fn p5_is_open_at_three_routers() {
 #[test]
 fn none_is_65535() {
     let mut area = [0; 256];
-    let bytes = text::make("router 1 2\nprefix 0.0.0.0/0").expect("the notation is sound").bytes;
+    let bytes = text::make_from_sheet("router 1 2\nprefix 0.0.0.0/0").expect("the notation is sound").bytes;
     assert_eq!(host(&bytes, 0, &mut area), 0);
     assert_eq!(area[..10], [255, 255, 255, 255, 255, 255, 255, 255, 0, 0]);
 }

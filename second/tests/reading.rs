@@ -7,7 +7,7 @@ use second::{random, text, writer};
 
 /// The bytes of a text of which nothing is judged.
 fn bytes(notation: &str) -> Vec<u8> {
-    text::make(notation).expect("the notation is sound").bytes
+    text::make_from_sheet(notation).expect("the notation is sound").bytes
 }
 
 fn refusal(bytes: &[u8]) -> (No, usize) {
@@ -109,9 +109,9 @@ fn field_of_the_network() {
     refused("router 0", Field, 2);
     refused("router 1 0", Field, 8);
     assert_eq!(refusal(&[1, 1, 2, 1, 0, 0, 0, 1]), (Field, 2));
-    accepted("router 1 2\ndistance 16777215");
-    accepted("router 1 2\ndistance 0");
-    refused("router 1 2\ndistance 16777216", Field, 14);
+    accepted("router 1 2\ndistance default 16777215");
+    accepted("router 1 2\ndistance default 0");
+    refused("router 1 2\ndistance default 16777216", Field, 14);
     refused("router 1 2\ndistance 1 to 0 16777216", Field, 21);
     let ids = "raw 01 02\nraw 02 00 00 00 00 01\nraw 02 01 00 00 00 02";
     refused(&format!("{ids}\nraw 03 02 01 00 00 00 01"), Field, 14);

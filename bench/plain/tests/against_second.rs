@@ -1,10 +1,9 @@
 //! The baseline against the independent second program, on random and damaged snapshots.
 
 use plain::{forecast, page, read, write, Contest, Counts, Lent, NONE};
-use second::record::{encode, Record};
 use second::seed::Seeded;
-use second::snapshot::{Route, Snapshot};
-use second::{damage, print, random, reader, text, writer};
+use second::snapshot::Snapshot;
+use second::{damage, print, random, tables, text, writer};
 
 /// What the tables hold before anything is read into them.
 const BEFORE: u32 = 0xeeee_eeee;
@@ -55,7 +54,7 @@ fn one_more_than_the_limit_is_full() {
         (prefixes(1, 257), 14 + 256 * 24),
         (prefixes(4, 256) + "prefix 4.0.0.0/8\nroute 0\n", 8 + 5 * 6 + 1024 * 24),
     ] {
-        let bytes = text::make(&format!("router 1\n{body}")).expect("the notation is sound").bytes;
+        let bytes = text::make_from_sheet(&format!("router 1\n{body}")).expect("the notation is sound").bytes;
         assert_eq!(printed(&bytes), format!("refused 8 {place}\n"));
     }
 }
@@ -63,29 +62,7 @@ fn one_more_than_the_limit_is_full() {
 /// The tables as the second program's snapshot says they must be, with `BEFORE` in every unused row.
 fn wanted_tables(snapshot: &Snapshot) -> Lent {
     let mut lent = Lent::filled(BEFORE);
-    let tables = lent.tables();
-    tables.ids[..snapshot.ids.len()].copy_from_slice(&snapshot.ids);
-    for (row, wanted) in tables.distances.chunks_mut(64).zip(&snapshot.distances) {
-        row[..wanted.len()].copy_from_slice(wanted);
-    }
-    let mut row = 0;
-    for (number, prefix) in snapshot.prefixes.iter().enumerate() {
-        tables.address[number] = prefix.address;
-        tables.length[number] = u32::from(prefix.length);
-        tables.prefix_routes[number] = prefix.routes.len() as u32;
-        for route in &prefix.routes {
-            tables.routes.router[row] = u32::from(route.router);
-            tables.routes.neighbour_as[row] = route.neighbour_as;
-            tables.routes.preference[row] = route.preference;
-            tables.routes.path[row] = u32::from(route.path);
-            tables.routes.origin[row] = u32::from(route.origin);
-            tables.routes.mark[row] = u32::from(route.mark);
-            tables.routes.med[row] = route.med;
-            tables.routes.neighbour_id[row] = route.neighbour_id;
-            tables.routes.peer[row] = route.peer;
-            row += 1;
-        }
-    }
+    tables::fill(snapshot, &mut lent.0);
     lent
 }
 
@@ -146,68 +123,10 @@ fn writing_gives_the_bytes_that_were_read() {
     }
 }
 
-/// Whether some snapshot reads into these tables: they are encoded as far as values fit, and read again.
-fn sound(counts: Counts, lent: &mut Lent) -> bool {
-    encoded(counts, lent).is_some_and(|bytes| reader::read(&bytes).is_ok())
-}
-
-fn encoded(counts: Counts, lent: &mut Lent) -> Option<Vec<u8>> {
-    if counts.routers > 64 || counts.prefixes > 64 || counts.routes > 1024 {
-        return None;
-    }
-    let tables = lent.tables();
-    let row = |from: usize| tables.distances[from * 64..from * 64 + counts.routers].to_vec();
-    let distances: Vec<Vec<u32>> = (0..counts.routers).map(row).collect();
-    if (0..counts.routers).any(|router| distances[router][router] != 0) {
-        return None;
-    }
-    let mut records = writer::network(&tables.ids[..counts.routers], &distances);
-    let mut row = 0;
-    for prefix in 0..counts.prefixes {
-        let length = u8::try_from(tables.length[prefix]).ok()?;
-        records.push(Record::Prefix { address: tables.address[prefix], length });
-        let end = row + tables.prefix_routes[prefix] as usize;
-        for row in row..end {
-            records.push(Record::Route(encodable(lent_row(&tables, row)?)?));
-        }
-        row = end;
-    }
-    records.push(Record::End(records.len() as u32));
-    (row == counts.routes).then(|| records.iter().flat_map(encode).collect())
-}
-
-/// The nine fields of a row, if there is such a row.
-fn lent_row(tables: &plain::Tables, row: usize) -> Option<[u32; 9]> {
-    let routes = &tables.routes;
-    (row < 1024).then(|| {
-        [
-            routes.router[row],
-            routes.neighbour_as[row],
-            routes.preference[row],
-            routes.path[row],
-            routes.origin[row],
-            routes.mark[row],
-            routes.med[row],
-            routes.neighbour_id[row],
-            routes.peer[row],
-        ]
-    })
-}
-
-fn encodable(
-    [router, neighbour_as, preference, path, origin, mark, med, neighbour_id, peer]: [u32; 9],
-) -> Option<Route> {
-    Some(Route {
-        router: u8::try_from(router).ok()?,
-        neighbour_as: u32::from(u16::try_from(neighbour_as).ok()?),
-        preference,
-        path: u16::try_from(path).ok()?,
-        origin: u8::try_from(origin).ok()?,
-        mark: u8::try_from(mark).ok()?,
-        med,
-        neighbour_id,
-        peer,
-    })
+/// Whether some snapshot reads into these tables.
+fn sound(counts: Counts, lent: &Lent) -> bool {
+    let [routers, prefixes, routes] = [counts.routers, counts.prefixes, counts.routes].map(|count| count as u32);
+    tables::snapshot(tables::Counts { routers, prefixes, routes }, &lent.0).is_some()
 }
 
 /// A value somewhere in the tables, or a count, altered.
@@ -216,7 +135,7 @@ fn altered(seeded: &mut Seeded, counts: &mut Counts, lent: &mut Lent) {
     match seeded.below(12) {
         0 => counts.routers = seeded.pick(&[0, 1, 2, counts.routers + 1, 64, 65]),
         1 => counts.prefixes = seeded.pick(&[0, 1, counts.prefixes + 1, 64, 65]),
-        2 => counts.routes = seeded.pick(&[0, 1, counts.routes + 1, 1024, 1025, usize::MAX]),
+        2 => counts.routes = seeded.pick(&[0, 1, counts.routes + 1, 1024, 1025, u32::MAX as usize]),
         _ => {
             let table = &mut lent.0[seeded.below(14)];
             // Mostly among the first rows, which are used.
@@ -240,7 +159,7 @@ fn table_is_given_exactly_where_no_snapshot_reads_so() {
         let (mut early, mut late) = ([7; 64], [7; 64]);
         let written = write(counts, &lent.tables(), &mut out);
         let forecast = forecast(counts, &lent.tables(), 64, &mut early, &mut late);
-        if sound(counts, &mut lent) {
+        if sound(counts, &lent) {
             yes += 1;
             assert!(written.is_ok(), "seed {seed}");
             assert_eq!(forecast, Err((12, 0)));

@@ -1,7 +1,7 @@
 //! The host call against the second program: the number returned and every byte of the area. All inputs come from
 //! seeds or from every place of a small snapshot, so each run asks the same.
 
-use differential::{Tally, AREA};
+use differential::host::{Tally, AREA};
 use second::record::cut;
 use second::{damage, random, text, writer};
 
@@ -17,7 +17,7 @@ prefix 10.0.0.0/8\nroute 0 as 65001 med 0 id 2\nroute 0 as 65002 med 5 id 1\nrou
 route 1 as 65001 med 5 id 1\nprefix 198.51.100.0/24\nroute 1 as 7 med absent\nroute 2 as 7 path 3 origin egp";
 
 fn small() -> Vec<u8> {
-    text::make(SMALL).expect("the notation is sound").bytes
+    text::make_from_sheet(SMALL).expect("the notation is sound").bytes
 }
 
 fn made(seed: u64, kind: &str) -> Vec<u8> {
