@@ -3,30 +3,21 @@ use Prim.Native.Nat.{ℕ}
 use mathlib.Core.Path.{_≡_}
 use mathlib.Core.Bool.{Bool, true, cond}
 use mathlib.Core.List.{List, _++_}
-use lib.Dec.{T, ltb}
+use lib.Dec.{ltb}
 use Rattle.refusal.specs.declared.Refusal.the-variants.{Room}
 use Rattle.refusal.specs.Numbers.{numberOf}
 use Rattle.snapshot.specs.declared.Counts.{Counts}
 use Rattle.snapshot.specs.Limits.{mostRoutes}
-use Rattle.snapshot.specs.Ranges.{none}
-use Rattle.snapshot.specs.Format.{Snapshot, encode, Valid}
 use Rattle.snapshot.specs.Reading.{reading}
-use Rattle.snapshot.specs.Tables.{Tables, short, Held}
+use Rattle.snapshot.specs.Tables.{Tables}
 use Rattle.scan.specs.declared.Read.{Read}
 use Rattle.scan.specs.declared.Read.the-variants as read
 use Rattle.scan.specs.Scan.{told}
+use Rattle.roundtrip.specs.Trips.{Written}
 use Rattle.text.specs.Text.{ascii, decimal}
 use Rattle.lines.specs.Lines.{refusedLine}
 use Rattle.cases.specs.declared.Finding.{Finding}
 use Rattle.cases.specs.declared.Finding.the-variants.{Accepted, Refused}
-
--- these are the bytes of the snapshot that counts and tables hold
-pub record Written (bs : List ℕ) (counts : Counts) (t : Tables) : Type 0 where
-  pub room : T (none (short t))
-  pub snapshot : Snapshot
-  pub valid : Valid snapshot
-  pub held : Held counts t snapshot
-  pub bytes : bs ≡ encode snapshot
 
 -- what was read stands in the tables: where it was accepted, its bytes are those of the snapshot that they hold
 pub record Kept (answer : Read) (bs : List ℕ) (t : Tables) : Type 0 where

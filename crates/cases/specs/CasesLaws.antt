@@ -1,7 +1,7 @@
 -- What is read is written as the same bytes again: of the calls that the program makes.
 use Prim.Native.Nat.{ℕ, _≤_}
 use native.Mathlib.Omega.{arith}
-use mathlib.Core.Path.{_≡_, refl, sym, ap, _∙_, subst, subst₂}
+use mathlib.Core.Path.{_≡_, refl, sym, ap, _∙_}
 use mathlib.Core.Bool.{Bool, true, false, cond, false≢true}
 use mathlib.Core.List.{List}
 use lib.ListN.{length, take}
@@ -11,34 +11,32 @@ use lib.Seq.{sets}
 use Rattle.refusal.specs.declared.Refusal.{Refusal}
 use Rattle.refusal.specs.declared.Refusal.the-variants.{Room}
 use Rattle.refusal.specs.Numbers.{numberOf}
-use Rattle.refusal.specs.NumbersLaws.{gives-refuses}
 use Rattle.model.specs.RowLaws.{by}
 use Rattle.snapshot.specs.declared.Counts.{Counts}
 use Rattle.snapshot.specs.Limits.{mostRoutes}
 use Rattle.snapshot.specs.Ranges.{anyOf}
-use Rattle.snapshot.specs.RangesLaws.{none-any}
 use Rattle.snapshot.specs.Format.{encode}
 use Rattle.snapshot.specs.Reading.{reading}
-use Rattle.snapshot.specs.Theorems.{accepts}
-use Rattle.snapshot.specs.Tables.{Tables, short, Room as Roomy, Held}
+use Rattle.snapshot.specs.Tables.{Tables, short}
 use Rattle.scan.specs.declared.Read.{Read}
 use Rattle.scan.specs.declared.Read.the-variants as read
 use Rattle.scan.specs.Scan.{said as readSaid, told}
 use Rattle.reader.specs.Read.{readAnswer, readTables}
-use Rattle.reader.specs.ReadLaws.{no-room, answer-told, was-accepted, tables-left}
+use Rattle.reader.specs.ReadLaws.{answer-told}
 use Rattle.tables.specs.Judging.{Decides}
-use Rattle.snapshot.specs.TablesLaws.{has-room, room-enough}
+use Rattle.snapshot.specs.TablesLaws.{has-room}
 use Rattle.tables.specs.Theorems.{held-one}
-use Rattle.tables.specs.FilledLaws.{filled-held, filled-room}
 use Rattle.writer.specs.declared.Write.{Write}
 use Rattle.writer.specs.declared.Write.the-variants as write
 use Rattle.writer.specs.Writing.{Writes, said, done}
 use Rattle.writer.specs.AnswerLaws.{written-back}
 use Rattle.writer.specs.Theorems.{writes-one}
+use Rattle.roundtrip.specs.Trips.{Written}
+use Rattle.roundtrip.specs.TripLaws.{taken}
 use Rattle.cases.specs.declared.Finding.{Finding}
 use Rattle.cases.specs.declared.Finding.the-variants.{Accepted, Refused}
 use Rattle.lines.specs.Lines.{refusedLine}
-use Rattle.cases.specs.Cases.{Written, Kept, finding, found, findingLine}
+use Rattle.cases.specs.Cases.{Kept, finding, found, findingLine}
 
 -- ---- written and compared
 
@@ -79,25 +77,8 @@ same-found {c} {same} d k e = ap (Accepted c) (by same (λ yes. yes) (λ no. abs
 -- ---- read, and then written and compared
 
 module _ (bs : List ℕ) (t : Tables) where
-  -- what is accepted stands in the tables
-  taken : {r : Read} {c : Counts} {u : Tables} → T (areBytes bs) → r ≡ read.Accepted c → readSaid r ≡ readAnswer bs t → u ≡ readTables bs t → Written bs c u
-  taken {r} {c} {u} bytes told e f =
-      let room : anyOf (short t) ≡ false =
-      by (anyOf (short t)) (λ short. absurd (gives-refuses Room 0 _ (sym (ap readSaid told) ∙ e ∙ sym (no-room bs t short .0)))) (λ enough. enough) in
-      let (s, is, counts) = was-accepted bs t room told e in
-      let (same, valid) = accepts bs s bytes .0 is in
-      let roomy = has-room t (none-any (short t) room) in
-      let left = f ∙ tables-left bs t room is in
-      record {
-        room = room-enough u (subst Roomy (sym left) (filled-room s roomy));
-        snapshot = s;
-        valid = valid;
-        held = subst₂ (λ (x : Counts) (y : Tables). Held x y s) (sym counts) (sym left) (filled-held valid roomy);
-        bytes = same;
-      }
-
   pub kept : (r : Read) (u : Tables) → T (areBytes bs) → readSaid r ≡ readAnswer bs t → u ≡ readTables bs t → Kept r bs u
-  kept r u bytes e f = record { written = λ c is. taken bytes is e f }
+  kept r u bytes e f = record { written = λ c is. taken bs t bytes is e f }
 
   -- the tables are short exactly where the peers' is
   pub found-is : {r : Finding} (answer : Read) (peers : ℕ) → anyOf (short t) ≡ ltb peers mostRoutes → readSaid answer ≡ readAnswer bs t → r ≡ finding answer → r ≡ found bs peers

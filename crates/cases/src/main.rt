@@ -20,7 +20,8 @@ ghost use Rattle.snapshot.specs.Tables.{columns, tables};
 ghost use Rattle.tables.specs.Judging.{Decides};
 ghost use Rattle.text.specs.Text.{ascii, decimal, Puts};
 ghost use Rattle.lines.specs.Lines.{widest};
-ghost use Rattle.cases.specs.Cases.{Written, Kept, finding, found, acceptedLine, findingLine, widestLine};
+ghost use Rattle.roundtrip.specs.Trips.{Written};
+ghost use Rattle.cases.specs.Cases.{Kept, finding, found, acceptedLine, findingLine, widestLine};
 
 // What is found of a file: its counts and whether it was written as the same bytes again, or a refusal with its place.
 enum Finding {
