@@ -117,7 +117,7 @@ fn p9_the_lower_peer_address() {
 #[test]
 fn p10_the_lower_router_id() {
     let routes = "route 0 as 1\nroute 1 as 2";
-    let notation = format!("router 1 2 3\ndistance default 7\nprefix 198.51.100.0/24\n{routes}");
+    let notation = format!("router 1 2 3\ndistance 0 2 7\ndistance 1 2 7\nprefix 198.51.100.0/24\n{routes}");
     forecasts(&notation, "settled", &["own 0", "own 1", "via 0 0"]);
 }
 
@@ -125,6 +125,37 @@ fn p10_the_lower_router_id() {
 fn p11_meds_of_different_ases_are_not_compared() {
     let routes = "route 0 as 1 med 9\nroute 1 as 2 med 0";
     forecasts(&format!("router 1 2\nprefix 198.51.100.0/24\n{routes}"), "settled", &["own 0", "own 1"]);
+}
+
+#[test]
+fn the_shorter_path_though_its_ids_are_higher() {
+    let routes = "route 0 path 3\nroute 1 path 2";
+    forecasts(&format!("router 1 2\nprefix 198.51.100.0/24\n{routes}"), "settled", &["via 1 1", "own 1"]);
+}
+
+#[test]
+fn the_lower_origin_though_its_ids_are_higher() {
+    let routes = "route 0 origin incomplete\nroute 1 origin egp";
+    forecasts(&format!("router 1 2\nprefix 198.51.100.0/24\n{routes}"), "settled", &["via 1 1", "own 1"]);
+}
+
+#[test]
+fn the_nearer_owner_though_its_id_is_higher() {
+    let distances = "distance 0 2 9\ndistance 1 2 3";
+    let notation = format!("router 1 2 3\n{distances}\nprefix 198.51.100.0/24\nroute 0 as 1\nroute 1 as 2");
+    forecasts(&notation, "settled", &["own 0", "own 1", "via 1 1"]);
+}
+
+/// AS 3's lowest MED (row 1) is held by nobody; router 2's MED, between that and router 1's, is the one held late.
+#[test]
+fn late_may_need_a_med_in_between_at_three_routers() {
+    let routes = [
+        "route 0 as 2 med 0\nroute 0 as 3 med 0",
+        "route 1 as 3 med 3\nroute 1 as 1 med 0",
+        "route 2 as 1 med 3\nroute 2 as 3 med 2",
+    ];
+    let notation = format!("router 1 2 3\nprefix 198.51.100.0/24\n{}", routes.join("\n"));
+    forecasts(&notation, "open 2", &["own 0 or own 0", "own 2 or own 3", "own 4 or own 5"]);
 }
 
 #[test]
