@@ -201,7 +201,7 @@ fn a_refused_record_is_traced_to_its_line() {
 #[test]
 fn too_many_routers_are_traced_to_the_line_of_the_65th() {
     assert_eq!(snapshot(&routers(64, 8)).ids.len(), 64);
-    for (count, each, line) in [(65, 8, 9), (65, 1, 65), (65, 65, 1), (96, 60, 2), (255, 64, 2)] {
+    for (count, each, line) in [(65, 8, 9), (65, 1, 65), (66, 65, 1), (96, 60, 2), (255, 64, 2)] {
         let wanted = format!("line {line}: the snapshot would be refused 5 0 (Field)");
         assert_eq!(fault(&routers(count, each)), wanted);
     }
