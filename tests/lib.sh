@@ -68,6 +68,53 @@ fresh() {
     fi
 }
 
+# rt makes programs and libraries for x86-64. On another machine C programs are compiled for x86-64 and run under an
+# emulator, and Rust programs link a stand-in that has the proved calls made under it (tests/x86).
+if [[ $(uname -m) == x86_64 ]]; then
+    emulator=() compiler=cc symbols=nm
+else
+    emulator=(qemu-x86_64 -L /usr/x86_64-linux-gnu) compiler=x86_64-linux-gnu-gcc symbols=x86_64-linux-gnu-nm
+fi
+
+# library CRATE: prints the name of a crate's static library, which rt makes unless it is there already.
+library() {
+    local file=target/staticlib/lib$1.a
+    fresh "$file" rt staticlib "$1" >&2 && echo "$file"
+}
+
+# program: prints the name of a file that runs the program forecast, which rt makes unless it is there already.
+program() {
+    local file=target/bin/forecast
+    fresh "$file" rt check forecast >&2 || return 1
+    if [[ ${#emulator[@]} -gt 0 ]]; then
+        mkdir -p target/x86
+        printf '#!/bin/sh\nexec %s %q "$@"\n' "${emulator[*]}" "$PWD/$file" > target/x86/forecast
+        file=target/x86/forecast
+        chmod +x "$file"
+    fi
+    echo "$file"
+}
+
+# link_calls: says which libraries with the proved calls the cargo workspace links, where the caller has not said so.
+link_calls() {
+    local host measure
+    host=${BARRIEROSE_HOST:-$(library host)} && measure=${BARRIEROSE_MEASURE:-$(library measure)} || return 1
+    if [[ ${#emulator[@]} -gt 0 && -z ${BARRIEROSE_HOST:-}${BARRIEROSE_MEASURE:-} ]]; then
+        stand_in "$host" "$measure" || return 1
+        host=target/x86/libcalls.a measure=target/x86/libcalls.a
+    fi
+    export BARRIEROSE_HOST=$host BARRIEROSE_MEASURE=$measure
+}
+
+# stand_in LIBRARY ..: makes target/x86/libcalls.a, and the server of the proved calls that it asks.
+stand_in() {
+    local to=target/x86
+    mkdir -p "$to"
+    "$compiler" -O2 -Wall -Wextra -Werror -o "$to/server" tests/x86/server.c "$@" &&
+        cc -O2 -Wall -Wextra -Werror -DSERVER="\"$PWD/$to/server\"" -c -o "$to/stand_in.o" tests/x86/stand_in.c &&
+        ar rcs "$to/libcalls.a" "$to/stand_in.o"
+}
+
 # give_up WHY: ends a script that lacks what it is to test, as a failure.
 give_up() {
     echo "FAILED: $1"

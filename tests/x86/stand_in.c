@@ -1,0 +1,100 @@
+/* The proved calls for programs of another machine than x86-64: each is handed to a server under the emulator. */
+#include "calls.h"
+#include <pthread.h>
+#include <stdio.h>
+#include <stdlib.h>
+#include <string.h>
+#include <unistd.h>
+
+static pthread_mutex_t turn = PTHREAD_MUTEX_INITIALIZER;
+static FILE *to, *from;
+
+static void need(int good, const char *what) {
+    if (!good) {
+        fprintf(stderr, "the server of the proved calls: %s\n", what);
+        abort();
+    }
+}
+
+static void start(void) {
+    int in[2], out[2];
+    need(pipe(in) == 0 && pipe(out) == 0, "no pipe");
+    if (fork() == 0) {
+        dup2(in[0], 0);
+        dup2(out[1], 1);
+        close(in[1]);
+        close(out[0]);
+        execlp("qemu-x86_64", "qemu-x86_64", "-L", "/usr/x86_64-linux-gnu", SERVER, (char *)NULL);
+        _exit(127);
+    }
+    close(in[0]);
+    close(out[1]);
+    to = fdopen(in[1], "w");
+    from = fdopen(out[0], "r");
+}
+
+/* What comes back of an area: into it where it was lent to be altered, and else it must be as it was. */
+static void back(void *area, size_t bytes, int altered) {
+    char *now = malloc(bytes + 1);
+    need(now != NULL && fread(now, 1, bytes, from) == bytes, "it ended");
+    need(altered || bytes == 0 || memcmp(area, now, bytes) == 0, "an area that was only to be read is another");
+    if (altered && bytes > 0) {
+        memcpy(area, now, bytes);
+    }
+    free(now);
+}
+
+/* Asks for a call. The areas from one number up to another are lent to be altered. */
+static uint64_t ask(const struct request *asked, void *const *area, int first, int end) {
+    uint64_t said;
+    pthread_mutex_lock(&turn);
+    if (to == NULL) {
+        start();
+    }
+    fwrite(asked, sizeof *asked, 1, to);
+    for (int k = 0; k < AREAS; k++) {
+        fwrite(area[k], 1, asked->bytes[k], to);
+    }
+    fflush(to);
+    need(fread(&said, sizeof said, 1, from) == 1, "it ended");
+    for (int k = 0; k < AREAS; k++) {
+        back(area[k], asked->bytes[k], first <= k && k < end);
+    }
+    pthread_mutex_unlock(&turn);
+    return said;
+}
+
+#define ALL                                                                                                            \
+    (void *)ids, (void *)distances, (void *)address, (void *)bits, (void *)routes, (void *)router, (void *)asn,        \
+        (void *)preference, (void *)path, (void *)origin, (void *)mark, (void *)med, (void *)nid, (void *)peer
+#define BYTES                                                                                                          \
+    4 * ids_len, 4 * distances_len, 4 * address_len, 4 * bits_len, 4 * routes_len, 4 * router_len, 4 * asn_len,        \
+        4 * preference_len, 4 * path_len, 4 * origin_len, 4 * mark_len, 4 * med_len, 4 * nid_len, 4 * peer_len
+#define NONE 0, 0, 0, 0, 0, 0, 0, 0, 0, 0, 0, 0, 0, 0
+
+uint32_t barrierose_forecast(const uint8_t *snapshot, size_t snapshot_len, uint32_t prefix, uint8_t *area,
+                             size_t area_len) {
+    struct request asked = {HOST, {prefix}, {NONE, snapshot_len, area_len}};
+    void *areas[AREAS] = {NONE, (void *)snapshot, area};
+    return (uint32_t)ask(&asked, areas, TABLES + 1, AREAS);
+}
+
+uint32_t measure_read(const uint8_t *input, size_t input_len, LENT()) {
+    struct request asked = {READ, {0}, {BYTES, input_len, 0}};
+    void *areas[AREAS] = {ALL, (void *)input, NULL};
+    return (uint32_t)ask(&asked, areas, 0, TABLES);
+}
+
+size_t measure_write(uint32_t routers, uint32_t prefixes, uint32_t of_routes, LENT(const), uint8_t *out,
+                     size_t out_len) {
+    struct request asked = {WRITE, {routers, prefixes, of_routes}, {BYTES, out_len, 0}};
+    void *areas[AREAS] = {ALL, out, NULL};
+    return ask(&asked, areas, TABLES, AREAS);
+}
+
+uint32_t measure_forecast(uint32_t routers, uint32_t prefixes, uint32_t of_routes, LENT(const), uint32_t prefix,
+                          uint16_t *early, size_t early_len, uint16_t *late, size_t late_len) {
+    struct request asked = {FORECAST, {routers, prefixes, of_routes, prefix}, {BYTES, 2 * early_len, 2 * late_len}};
+    void *areas[AREAS] = {ALL, early, late};
+    return (uint32_t)ask(&asked, areas, TABLES, AREAS);
+}
