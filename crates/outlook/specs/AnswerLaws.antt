@@ -4,10 +4,10 @@ use native.Mathlib.Omega.{arith}
 use mathlib.Core.Path.{_≡_, refl, sym, ap, ap₂, subst, _∙_}
 use mathlib.Core.Bool.{true≢false}
 use mathlib.Core.List.{List}
-use lib.ListN.{length, getD}
+use lib.ListN.{length}
 use lib.Seq.{sets}
 use Rattle.refusal.specs.Numbers.{Said, gives}
-use Rattle.refusal.specs.NumbersLaws.{refuses-tells, gives-refuses, gives-tells}
+use Rattle.refusal.specs.NumbersLaws.{value, same-refusal, gives-refuses}
 use Rattle.snapshot.specs.declared.Counts.{Counts}
 use Rattle.snapshot.specs.Format.{Snapshot}
 use Rattle.snapshot.specs.Tables.{Tables, mesh}
@@ -22,12 +22,10 @@ use Rattle.outlook.specs.OutlookLaws.{roomy}
 
 -- numbers and values tell the answer
 pub said-tells : (a b : Outlook) → said a ≡ said b → a ≡ b
-said-tells (Forecast d) (Forecast f) e =
-    let same = gives-tells (valuesOf d) (valuesOf f) e in
-    ap₂ (λ (x y : ℕ). Forecast (record { word = x; number = y })) (ap (λ (v : List ℕ). getD v 0 0) same) (ap (λ (v : List ℕ). getD v 1 0) same)
-said-tells (Forecast d) (Refused r at) e = absurd (gives-refuses r at (valuesOf d) e)
-said-tells (Refused r at) (Forecast d) e = absurd (gives-refuses r at (valuesOf d) (sym e))
-said-tells (Refused r at) (Refused q place) e = let same = refuses-tells r q at place e in ap₂ Refused (same .0) (same .1)
+said-tells (Forecast d) (Forecast f) e = ap (λ (s : Said). Forecast (record { word = value s 0; number = value s 1 })) e
+said-tells (Forecast d) (Refused r at) e = absurd (gives-refuses r at _ e)
+said-tells (Refused r at) (Forecast d) e = absurd (gives-refuses r at _ (sym e))
+said-tells (Refused r at) (Refused q place) e = same-refusal Refused r q at place e
 
 -- the same answer and the same areas
 pub record Same {A : Type 0} (a b : A) (early early′ late late′ : List ℕ) : Type 0 where

@@ -11,7 +11,7 @@ use lib.Pow.{areBytes}
 use lib.Seq.{sets, drop-append-seam}
 use Rattle.refusal.specs.declared.Refusal.{Refusal}
 use Rattle.refusal.specs.Numbers.{numberOf, Said, gives}
-use Rattle.refusal.specs.NumbersLaws.{refuses-tells, gives-refuses, gives-tells}
+use Rattle.refusal.specs.NumbersLaws.{value, same-refusal, gives-refuses}
 use Rattle.model.specs.Rows.{span}
 use Rattle.model.specs.RowLaws.{in-span}
 use Rattle.model.specs.Stability.{Between}
@@ -33,10 +33,10 @@ use Rattle.page.specs.RenderLaws.{each-same}
 
 -- numbers and values tell the answer
 pub said-tells : (a b : Rendered) → said a ≡ said b → a ≡ b
-said-tells (Text n) (Text m) e = ap (λ (v : List ℕ). Text (getD v 0 0)) (gives-tells (n ∷ []) (m ∷ []) e)
-said-tells (Text n) (Refused r at) e = absurd (gives-refuses r at (n ∷ []) e)
-said-tells (Refused r at) (Text n) e = absurd (gives-refuses r at (n ∷ []) (sym e))
-said-tells (Refused r at) (Refused q place) e = let same = refuses-tells r q at place e in ap₂ Refused (same .0) (same .1)
+said-tells (Text n) (Text m) e = ap (λ (s : Said). Text (value s 0)) e
+said-tells (Text n) (Refused r at) e = absurd (gives-refuses r at _ e)
+said-tells (Refused r at) (Text n) e = absurd (gives-refuses r at _ (sym e))
+said-tells (Refused r at) (Refused q place) e = same-refusal Refused r q at place e
 
 -- ---- pages
 

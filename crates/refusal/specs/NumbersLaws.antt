@@ -51,7 +51,7 @@ abbrev pub value : Said → ℕ → ℕ
 value s k = getD (s .values) k 0
 
 -- a refusal is told by its number and its place
-pub refuses-tells : (a b : Refusal) (at place : ℕ) → refuses a at ≡ refuses b place → (a ≡ b) × (at ≡ place)
+refuses-tells : (a b : Refusal) (at place : ℕ) → refuses a at ≡ refuses b place → (a ≡ b) × (at ≡ place)
 refuses-tells a b at place e = (number-tells a b (ap (λ (s : Said). s .number) e), ap (λ (s : Said). value s 0) e)
 
 -- so whatever is made of them is the same
@@ -61,7 +61,3 @@ same-refusal make a b at place e = let (r, p) = refuses-tells a b at place e in 
 -- and nothing that is given is one
 pub gives-refuses : (a : Refusal) (at : ℕ) (values : List ℕ) → gives values ≡ refuses a at → ⊥
 gives-refuses a at values e = let n = ap (λ (s : Said). s .number) e in omega (arith, n, number-range a .0)
-
--- what is given is told by its values
-pub gives-tells : (u v : List ℕ) → gives u ≡ gives v → u ≡ v
-gives-tells u v e = ap (λ (s : Said). s .values) e

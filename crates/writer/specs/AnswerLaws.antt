@@ -1,14 +1,14 @@
 -- What an answer of writing tells: its numbers tell which it is, and where it wrote, what stands in the output.
 use Prim.Native.Nat.{ℕ, _≤_}
 use native.Mathlib.Omega.{arith}
-use mathlib.Core.Path.{_≡_, refl, sym, ap, ap₂, _∙_}
-use mathlib.Core.List.{List, [], _∷_}
-use lib.ListN.{length, getD, take, drop}
+use mathlib.Core.Path.{_≡_, refl, sym, ap, _∙_}
+use mathlib.Core.List.{List}
+use lib.ListN.{length, take, drop}
 use lib.Dec.{T}
 use lib.Seq.{sets, take-append-seam}
 use mir.Facts.{T-not}
-use Rattle.refusal.specs.Numbers.{Said, gives}
-use Rattle.refusal.specs.NumbersLaws.{refuses-tells, gives-refuses}
+use Rattle.refusal.specs.Numbers.{Said}
+use Rattle.refusal.specs.NumbersLaws.{value, same-refusal, gives-refuses}
 use Rattle.model.specs.ColumnLaws.{sets-front}
 use Rattle.snapshot.specs.declared.Counts.{Counts}
 use Rattle.snapshot.specs.Ranges.{anyOf, none}
@@ -20,16 +20,12 @@ use Rattle.writer.specs.declared.Write.{Write}
 use Rattle.writer.specs.declared.Write.the-variants.{Written, Refused}
 use Rattle.writer.specs.Writing.{wrote, said, Writes, room, unheld, full, done}
 
--- the one value of an answer
-abbrev value : Said → ℕ
-value q = getD (q .values) 0 0
-
 -- the numbers tell the answer
 pub said-tells : (a b : Write) → said a ≡ said b → a ≡ b
-said-tells (Written n) (Written m) e = ap Written (ap value e)
-said-tells (Written n) (Refused r at) e = absurd (gives-refuses r at (n ∷ []) e)
-said-tells (Refused r at) (Written m) e = absurd (gives-refuses r at (m ∷ []) (sym e))
-said-tells (Refused r at) (Refused q to) e = let (i, j) = refuses-tells r q at to e in ap₂ Refused i j
+said-tells (Written n) (Written m) e = ap (λ (s : Said). Written (value s 0)) e
+said-tells (Written n) (Refused r at) e = absurd (gives-refuses r at _ e)
+said-tells (Refused r at) (Written m) e = absurd (gives-refuses r at _ (sym e))
+said-tells (Refused r at) (Refused q place) e = same-refusal Refused r q at place e
 
 -- any two results say the same and leave the same
 module _ {counts : Counts} {t : Tables} {before : List ℕ} where
@@ -66,8 +62,8 @@ written-back {before} n (done m s v h l) e = (
   m,
   v,
   h,
-  ap (λ (k : ℕ). take k (sets before 0 (encode s))) (sym (ap value e))
+  ap (λ (k : ℕ). take k (sets before 0 (encode s))) (sym (ap (λ (q : Said). value q 0) e))
       ∙ ap (take (length (encode s))) (sets-front before (encode s) l)
       ∙ take-append-seam (encode s) (drop (length (encode s)) before),
-  omega (arith, ap value e),
+  omega (arith, ap (λ (q : Said). value q 0) e),
 )

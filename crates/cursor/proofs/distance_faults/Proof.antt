@@ -4,7 +4,7 @@ use mathlib.Core.Path.{_∙_}
 use mathlib.Core.Bool.{cond, not, _||_}
 use lib.Dec.{eqb, leb}
 use Rattle.refusal.specs.declared.Refusal.the-variants.{Field, Order}
-use Rattle.cursor.specs.declared.Finding.the-variants.{Clear, Fault}
+use Rattle.cursor.specs.declared.Finding.the-variants.{Fault}
 use Rattle.cursor.proofs.distance_faults.Statement.{statement}
 use Rattle.cursor.proofs.distance_faults.Tie as tie
 
