@@ -1,7 +1,7 @@
 // The numbers for a no. Every public call that can refuse answers with one of these and a place.
 //
-// A rule for every answer of this project that is an enum: a definition in specs/ gives the paper's number and values for each
-// case, and promises are written with that definition. Here it is `numberOf`.
+// A rule for every answer of this project that is an enum: a definition in specs/ gives document 01's number and values for each
+// case, as a `Said`, and promises are written with that definition. Here it is `numberOf`.
 ghost use mathlib.Core.Path.{_≡_};
 ghost use Rattle.refusal.specs.Numbers.{numberOf};
 

@@ -121,7 +121,7 @@ Judged counts t answer = Decides (Holding counts t) answer
 
 -- ---- verdicts
 
--- the paper's number for a verdict: 0, or that of the refusal
+-- document 01's number for a verdict: 0, or that of the refusal
 abbrev pub numbered : Verdict → ℕ
 numbered Good = 0
 numbered (Refused r) = numberOf r
