@@ -82,17 +82,19 @@ library() {
     fresh "$file" rt staticlib "$1" >&2 && echo "$file"
 }
 
+# runnable FILE: prints the name of a file that runs a program for x86-64: itself, or a script that hands it to the emulator.
+runnable() {
+    local script=target/x86/run-${1##*/}
+    [[ ${#emulator[@]} -gt 0 ]] || { echo "$1"; return; }
+    mkdir -p target/x86
+    printf '#!/bin/sh\nexec %s %q "$@"\n' "${emulator[*]}" "$PWD/$1" > "$script"
+    chmod +x "$script"
+    echo "$script"
+}
+
 # program: prints the name of a file that runs the program forecast, which rt makes unless it is there already.
 program() {
-    local file=target/bin/forecast
-    fresh "$file" rt check forecast >&2 || return 1
-    if [[ ${#emulator[@]} -gt 0 ]]; then
-        mkdir -p target/x86
-        printf '#!/bin/sh\nexec %s %q "$@"\n' "${emulator[*]}" "$PWD/$file" > target/x86/forecast
-        file=target/x86/forecast
-        chmod +x "$file"
-    fi
-    echo "$file"
+    fresh target/bin/forecast rt check forecast >&2 && runnable target/bin/forecast
 }
 
 # link_calls: says which libraries with the proved calls the cargo workspace links, where the caller has not said so.
@@ -108,11 +110,20 @@ link_calls() {
 
 # stand_in LIBRARY ..: makes target/x86/libcalls.a, and the server of the proved calls that it asks.
 stand_in() {
-    local to=target/x86
+    local to=target/x86 server
     mkdir -p "$to"
+    server=$PWD/$(runnable "$to/server")
     "$compiler" -O2 -Wall -Wextra -Werror -o "$to/server" tests/x86/server.c "$@" &&
-        cc -O2 -Wall -Wextra -Werror -DSERVER="\"$PWD/$to/server\"" -c -o "$to/stand_in.o" tests/x86/stand_in.c &&
+        cc -O2 -Wall -Wextra -Werror -DSERVER="\"$server\"" -c -o "$to/stand_in.o" tests/x86/stand_in.c &&
         ar rcs "$to/libcalls.a" "$to/stand_in.o"
+}
+
+# copy_tree DIR: puts the files of the repository as they stand, and what rt has proved of them, into a directory.
+copy_tree() {
+    git ls-files -z --cached --others --exclude-standard | while IFS= read -rd '' file; do
+        [[ ! -e $file ]] || printf '%s\0' "$file"
+    done | tar --null -cf - -T - | tar -xf - -C "$1"
+    [[ ! -d target ]] || cp -r target "$1/target"
 }
 
 # give_up WHY: ends a script that lacks what it is to test, as a failure.

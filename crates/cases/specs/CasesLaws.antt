@@ -32,7 +32,7 @@ use Rattle.writer.specs.Writing.{Writes, said, done}
 use Rattle.writer.specs.AnswerLaws.{written-back}
 use Rattle.writer.specs.Theorems.{writes-one}
 use Rattle.roundtrip.specs.Trips.{Written}
-use Rattle.roundtrip.specs.TripLaws.{taken}
+use Rattle.roundtrip.specs.TripLaws.{was-written}
 use Rattle.cases.specs.declared.Finding.{Finding}
 use Rattle.cases.specs.declared.Finding.the-variants.{Accepted, Refused}
 use Rattle.lines.specs.Lines.{refusedLine}
@@ -78,7 +78,7 @@ same-found {c} {same} d k e = ap (Accepted c) (by same (λ yes. yes) (λ no. abs
 
 module _ (bs : List ℕ) (t : Tables) where
   pub kept : (r : Read) (u : Tables) → T (areBytes bs) → readSaid r ≡ readAnswer bs t → u ≡ readTables bs t → Kept r bs u
-  kept r u bytes e f = record { written = λ c is. taken bs t bytes is e f }
+  kept r u bytes e f = record { written = λ c is. was-written bs t bytes is e f }
 
   -- the tables are short exactly where the peers' is
   pub found-is : {r : Finding} (answer : Read) (peers : ℕ) → anyOf (short t) ≡ ltb peers mostRoutes → readSaid answer ≡ readAnswer bs t → r ≡ finding answer → r ≡ found bs peers

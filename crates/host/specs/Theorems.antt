@@ -17,6 +17,7 @@ use Rattle.snapshot.specs.Reading.{Answer, accepted, refused, reading}
 use Rattle.snapshot.specs.Theorems.{accepts}
 use Rattle.snapshot.specs.Tables.{mesh}
 use Rattle.tables.specs.Theorems.{sound}
+use Rattle.reader.specs.TakenLaws.{one-refused}
 use Rattle.host.specs.Host.{areaBytes, refusalCode, rowsBytes, Answers, room, unread, noPrefix, given}
 
 -- no bytes are both accepted and refused
@@ -25,9 +26,6 @@ apart e f = refused-not-accepted (sym f ∙ e)
 
 one-snapshot : {a : Answer} {s u : Snapshot} → a ≡ accepted s → a ≡ accepted u → u ≡ s
 one-snapshot e f = accepted-injective (sym f ∙ e)
-
-one-refusal : {a : Answer} {r q : Refusal} {at place : ℕ} → a ≡ refused r at → a ≡ refused q place → r ≡ q
-one-refusal {r = r} {q = q} {at = at} {place = place} e f = let same : refused r at ≡ refused q place = sym e ∙ f in cc
 
 -- what is read from bytes is valid
 valid-read : (bs : List ℕ) {s : Snapshot} → T (areBytes bs) → reading bs ≡ accepted s → Valid s
@@ -46,7 +44,7 @@ module _ (bs : List ℕ) (bytes : T (areBytes bs)) {p : ℕ} {area : List ℕ} w
   answers-one (room h) (noPrefix k s e m) = absurd (omega arith)
   answers-one (room h) (given k s e m x y b) = absurd (omega arith)
   answers-one (unread h r at e) (room k) = absurd (omega arith)
-  answers-one (unread h r at e) (unread k q place f) = record { number = ap refusalCode (one-refusal e f); area = refl }
+  answers-one (unread h r at e) (unread k q place f) = record { number = ap refusalCode (one-refused e f .0); area = refl }
   answers-one (unread h r at e) (noPrefix k s f m) = absurd (apart f e)
   answers-one (unread h r at e) (given k s f m x y b) = absurd (apart f e)
   answers-one (noPrefix h s e m) (room k) = absurd (omega arith)

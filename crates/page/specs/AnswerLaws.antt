@@ -22,6 +22,7 @@ use Rattle.snapshot.specs.Reading.{Answer, refused}
 use Rattle.snapshot.specs.Tables.{mesh}
 use Rattle.snapshot.specs.Theorems.{accepts}
 use Rattle.tables.specs.Theorems.{sound}
+use Rattle.reader.specs.TakenLaws.{one-refused}
 use Rattle.text.specs.Text.{ascii, decimal}
 use Rattle.lines.specs.Lines.{headingLine, refusedLine, dotted, state, prefixLine}
 use Rattle.page.specs.declared.Rendered.{Rendered}
@@ -42,11 +43,7 @@ said-tells (Refused r at) (Refused q place) e = same-refusal Refused r q at plac
 
 -- one refusal has one line
 one-line : {a : Answer} {r q : Refusal} {at place : ℕ} → a ≡ refused r at → a ≡ refused q place → refusedLine (numberOf r) at ≡ refusedLine (numberOf q) place
-one-line {r = r} {q = q} {at = at} {place = place} e f =
-    let same : refused r at ≡ refused q place = sym e ∙ f in
-    let i : r ≡ q = cc in
-    let j : at ≡ place = cc in
-    ap₂ (λ (x : Refusal) (y : ℕ). refusedLine (numberOf x) y) i j
+one-line e f = let (i, j) = one-refused e f in ap₂ (λ (x : Refusal) (y : ℕ). refusedLine (numberOf x) y) i j
 
 -- the rows of a snapshot's prefixes are determined, and so is their text
 one-text : (s : Snapshot) → Valid s → (e l e′ l′ : ℕ → List ℕ)

@@ -18,22 +18,18 @@ use Rattle.model.specs.Columns.{Columns, lentMesh}
 use Rattle.snapshot.specs.declared.Counts.{Counts}
 use Rattle.snapshot.specs.Limits.{mostPrefixes}
 use Rattle.snapshot.specs.Ranges.{anyOf}
-use Rattle.snapshot.specs.RangesLaws.{none-any}
 use Rattle.snapshot.specs.Format.{Prefix, Snapshot}
-use Rattle.snapshot.specs.Reading.{accepted, reading}
-use Rattle.snapshot.specs.Theorems.{accepts}
-use Rattle.snapshot.specs.Tables.{Tables, short, Held, mesh, Room}
+use Rattle.snapshot.specs.Tables.{Tables, short, mesh, Room}
 use Rattle.scan.specs.declared.Read.{Read}
 use Rattle.scan.specs.declared.Read.the-variants as read
 use Rattle.tables.specs.Judging.{Holding}
 use Rattle.tables.specs.Theorems.{sound}
-use Rattle.snapshot.specs.TablesLaws.{has-room}
-use Rattle.tables.specs.FilledLaws.{filled-held, filled-room}
 use Rattle.outlook.specs.Outlook.{cut}
 use Rattle.outlook.specs.OutlookLaws.{whole, part-of, n-is, same-parts, lent, pair}
 use Rattle.scan.specs.Scan.{said as readSaid}
 use Rattle.reader.specs.Read.{readAnswer, readTables}
-use Rattle.reader.specs.ReadLaws.{was-refused, was-accepted, tables-left}
+use Rattle.reader.specs.ReadLaws.{was-refused}
+use Rattle.reader.specs.TakenLaws.{taken}
 use Rattle.lines.specs.Lines.{widest, headingLine}
 use Rattle.text.specs.Text.{each, Puts}
 use Rattle.page.specs.declared.Rendered.the-variants.{Text}
@@ -116,33 +112,11 @@ module _ (counts : Counts) (t : Tables) (roomy : Room t) (holding : Holding coun
 -- ---- what reading left
 
 module _ (bs : List ℕ) (t : Tables) (enough : anyOf (short t) ≡ false) (bytes : T (areBytes bs)) where
-  -- accepted: the tables hold the snapshot
-  record Filled (c : Counts) (u : Tables) : Type 0 where
-    room : Room u
-    holding : Holding c u
-    is-read : reading bs ≡ accepted (holding .snapshot)
-
-  filled-page : {r : Read} {c : Counts} {u : Tables} → r ≡ read.Accepted c → readSaid r ≡ readAnswer bs t → u ≡ readTables bs t → Filled c u
-  filled-page {c = c} {u = u} told e f =
-      let (s, is, counts) = was-accepted bs t enough told e in
-      let valid = accepts bs s bytes .0 is .1 in
-      let roomy = has-room t (none-any (short t) enough) in
-      let left = f ∙ tables-left bs t enough is in
-      record {
-        room = subst Room (sym left) (filled-room s roomy);
-        holding = record {
-          snapshot = s;
-          valid = valid;
-          held = subst₂ (λ (x : Counts) (y : Tables). Held x y s) (sym counts) (sym left) (filled-held valid roomy);
-        };
-        is-read = is;
-      }
-
-  -- so its prefixes may be decided
+  -- the prefixes of what was accepted may be decided
   pub ready : (r : Read) (u : Tables) (n : ℕ) → readSaid r ≡ readAnswer bs t → u ≡ readTables bs t → widestPage ≤ n
       → Ready r (u .ids) (u .distances) (u .address) (u .bits) (u .routes) (whole u) n
   ready r u n e f l = record {
-    blocks = λ c is. let g = filled-page is e f in blocks c u (g .room) (g .holding);
+    blocks = λ c is. let g = taken bs t bytes is e f in blocks c u (g .room) (g .holding);
     out-long = l;
   }
 
@@ -150,7 +124,7 @@ module _ (bs : List ℕ) (t : Tables) (enough : anyOf (short t) ≡ false) (byte
   pub page-is : (r : Read) (u : Tables) → readSaid r ≡ readAnswer bs t → u ≡ readTables bs t
       → Pages bs (lentPage r (u .ids) (u .distances) (u .address) (u .bits) (u .routes) (whole u))
   page-is (read.Accepted c) u e f =
-      let g = filled-page refl e f in
+      let g = taken bs t bytes refl e f in
       let s = g .holding .snapshot in
       subst (Pages bs) (sym (tables-text c u (g .room) (g .holding)))
       (given s (g .is-read) (λ p. early (mesh s p)) (λ p. late (mesh s p)) (λ p below. forecast (mesh s p) (sound (g .holding .valid) p below)))

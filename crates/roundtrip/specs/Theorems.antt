@@ -30,7 +30,7 @@ use Rattle.writer.specs.Writing.{said as writeSaid, Writes, done}
 use Rattle.writer.specs.AnswerLaws.{written-back}
 use Rattle.writer.specs.Theorems.{writes-one}
 use Rattle.roundtrip.specs.Trips.{SameRows}
-use Rattle.roundtrip.specs.TripLaws.{taken}
+use Rattle.roundtrip.specs.TripLaws.{was-written}
 
 -- "Read and written again gives the same bytes": bytes `bs` were read into the tables t, which then were u, and accepted with counts c;
 -- writing c and u into an output that has room for them answers that so many bytes were written, and puts `bs` there.
@@ -39,7 +39,7 @@ pub read-then-written : (bs : List ℕ) (t u : Tables) (c : Counts) (r : Read) (
     → Writes c u before (writeSaid w) after → length bs ≤ length before
     → (w ≡ write.Written (length bs)) × (after ≡ sets before 0 bs)
 read-then-written bs t u c r w {before} bytes reads told writes fits =
-    let h = taken bs t bytes told (reads .0) (reads .1) in
+    let h = was-written bs t bytes told (reads .0) (reads .1) in
     let long = ap length (h .bytes) in
     let again : Writes c u before (writeSaid (write.Written (length (encode (h .snapshot))))) (sets before 0 (encode (h .snapshot))) =
     done (h .room) (h .snapshot) (h .valid) (h .held) (omega arith) in
