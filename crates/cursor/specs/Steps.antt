@@ -1,8 +1,8 @@
 -- What the cursor's methods answer, as the definitions of the snapshot have it.
 use Prim.Native.Nat.{ℕ, _+_}
 use mathlib.Core.Path.{_≡_}
-use mathlib.Core.Bool.{Bool, cond, not, _&&_}
-use mathlib.Core.List.{List, [], _∷_}
+use mathlib.Core.Bool.{Bool, false, cond, not, _&&_}
+use mathlib.Core.List.{List, [], _∷_, _++_}
 use lib.ListN.{length, getD}
 use lib.Dec.{ltb, eqb}
 use Rattle.refusal.specs.declared.Refusal.the-variants.{Cut, Kind, Place, Full, Field, Order, Tail}
@@ -10,9 +10,9 @@ use Rattle.refusal.specs.Numbers.{Said, refuses, gives}
 use Rattle.snapshot.specs.declared.Route.{Route}
 use Rattle.model.specs.Decision as model
 use Rattle.snapshot.specs.Ranges.{none, prefixTests, routeTests, rises, risesRoute}
-use Rattle.snapshot.specs.Records.{Form, forms, ofKind, known, sum, size, prefixForm, routeForm, valuesAt}
+use Rattle.snapshot.specs.Records.{Form, forms, ofKind, known, sum, size, prefixForm, routeForm, endForm, valuesAt}
 use Rattle.snapshot.specs.Format.{Pair, Snapshot, routesIn, latest, Check, _else_, judged}
-use Rattle.snapshot.specs.Reading.{recordChecks, openRoutes, routeOf, prefixRoom, routeRoom}
+use Rattle.snapshot.specs.Reading.{recordChecks, openRoutes, routeOf, prefixRoom, routeRoom, endValues}
 use Rattle.cursor.specs.declared.Finding.{Finding}
 use Rattle.cursor.specs.declared.Finding.the-variants.{Clear, Fault}
 use Rattle.cursor.specs.declared.Body.{Body}
@@ -34,25 +34,43 @@ abbrev pub finding : List Check → Finding
 finding [] = Clear
 finding ((b else r) ∷ checks) = cond b (finding checks) (Fault r)
 
--- the length of the body of a kind, or KIND
-abbrev pub bodyOf : ℕ → Body
-bodyOf k = ofKind forms k (λ f. Bytes (sum (f .widths))) (Refused Kind)
+-- the length of the body of a kind of a table, or KIND
+abbrev pub bodyOf : List Form → ℕ → Body
+bodyOf table k = ofKind table k (λ f. Bytes (sum (f .widths))) (Refused Kind)
 
 -- the length of the body of a kind, 0 where it is not known
-abbrev pub bodyLength : ℕ → ℕ
-bodyLength k = ofKind forms k (λ f. sum (f .widths)) 0
+abbrev pub bodyLength : List Form → ℕ → ℕ
+bodyLength table k = ofKind table k (λ f. sum (f .widths)) 0
 
 -- the checks of every record before its values: CUT for the kind byte, KIND, PLACE, FULL, CUT for the body
-abbrev pub openingChecks : List ℕ → ℕ → ℕ → Bool → Bool → List Check
-openingChecks bs at due astray full =
+abbrev pub openingChecks : List Form → List ℕ → ℕ → ℕ → Bool → Bool → List Check
+openingChecks table bs at due astray full =
     let k = getD bs at 0 in
     (ltb at (length bs) else Cut)
-    ∷ (known k else Kind)
+    ∷ (known table k else Kind)
     ∷ (eqb k due else Place)
     ∷ (not astray else Place)
     ∷ (not full else Full)
-    ∷ (ltb (at + bodyLength k) (length bs) else Cut)
+    ∷ (ltb (at + bodyLength table k) (length bs) else Cut)
     ∷ []
+
+-- the same checks where the body of the kind is given: after CUT for the kind byte,
+abbrev pub bodyChecks : Body → List ℕ → ℕ → ℕ → Bool → Bool → List Check
+bodyChecks (Refused r) bs at due astray full = (false else r) ∷ []
+bodyChecks (Bytes n) bs at due astray full =
+    (eqb (getD bs at 0) due else Place)
+    ∷ (not astray else Place)
+    ∷ (not full else Full)
+    ∷ (ltb (at + n) (length bs) else Cut)
+    ∷ []
+
+-- and with it
+abbrev pub openingBy : Body → List ℕ → ℕ → ℕ → Bool → Bool → List Check
+openingBy body bs at due astray full = (ltb at (length bs) else Cut) ∷ bodyChecks body bs at due astray full
+
+-- the checks of an end record behind so many records, where the body of the kind is given
+abbrev pub endBy : Body → ℕ → List ℕ → ℕ → List Check
+endBy body records bs at = openingBy body bs at 6 false false ++ endValues records (valuesAt endForm bs at)
 
 -- the cursor before the first record
 abbrev pub begin : Cursor
@@ -90,11 +108,11 @@ routeFaults k r =
 
 -- the checks of a prefix record, by what is known of those before it
 unfoldable pub prefixNext : Sofar → List ℕ → List Check
-prefixNext k = recordChecks prefixForm (prefixRoom (k .prefixes)) (λ v. prefixFaults k (getD v 0 0) (getD v 1 0))
+prefixNext k = recordChecks forms prefixForm (prefixRoom (k .prefixes)) (λ v. prefixFaults k (getD v 0 0) (getD v 1 0))
 
 -- the checks of a route record, by what is known of those before it
 unfoldable pub routeNext : Sofar → List ℕ → List Check
-routeNext k = recordChecks routeForm (routeRoom (k .prefixes) (k .inside) (k .routes)) (λ v. routeFaults k (routeOf v))
+routeNext k = recordChecks forms routeForm (routeRoom (k .prefixes) (k .inside) (k .routes)) (λ v. routeFaults k (routeOf v))
 
 -- the prefix of the record at a place
 abbrev pub networkAt : List ℕ → ℕ → Network

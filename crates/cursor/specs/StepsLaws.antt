@@ -1,5 +1,5 @@
 -- What the cursor's methods rest on: a record is judged by its opening, then by its values.
-use Prim.Native.Nat.{ℕ, zero, suc, _+_, _≤_, _<_}
+use Prim.Native.Nat.{ℕ, zero, suc, _+_, _-_, _≤_, _<_}
 use native.Mathlib.Nat.{not-suc-le-zero}
 use native.Mathlib.Numerals.{add-one}
 use native.Mathlib.Omega.{arith}
@@ -9,23 +9,24 @@ use mathlib.Core.Bool.{Bool, true, false, cond, not, _||_}
 use mathlib.Core.List.{List, [], _∷_, _++_}
 use lib.ListN.{length, getD, take, drop}
 use lib.Seq.{take-suc}
-use lib.Dec.{leb, ltb, eqb, ltb→lt, eqb→eq, lit≤}
+use lib.Dec.{leb, ltb, eqb, ltb→lt, eqb→eq}
 use borrow.Author.Tests.{ne-eqb, eq-eqb, le-leb, lt-leb, lt-ltb, le-ltb}
 use Rattle.refusal.specs.declared.Refusal.{Refusal}
 use Rattle.refusal.specs.declared.Refusal.the-variants.{Cut, Kind, Place, Full, Field, Order}
 use Rattle.model.specs.Rows.{some}
 use Rattle.snapshot.specs.Limits.{mostPrefixes, mostInPrefix, mostRoutes}
 use Rattle.snapshot.specs.Ranges.{none, prefixTests, routeTests}
-use Rattle.snapshot.specs.Records.{Form, forms, ofKind, sum, size, known, prefixForm, routeForm, valuesAt}
+use Rattle.snapshot.specs.Records.{Form, forms, ofKind, sum, size, known, prefixForm, routeForm, endForm, valuesAt}
 use Rattle.snapshot.specs.Format.{Snapshot, Check, _else_, judged, Holds}
-use Rattle.snapshot.specs.Reading.{recordChecks, prefixRoom, prefixRecord, routeRoom, routeExtra, routeRecord, routeOf}
+use Rattle.snapshot.specs.Reading.{recordChecks, prefixRoom, prefixRecord, routeRoom, routeExtra, routeRecord, routeOf, endValues, endRecord}
 use Rattle.snapshot.specs.ChecksLaws.{judged-append, judged-front}
 use Rattle.snapshot.specs.PlaceLaws.{record-at}
 use Rattle.cursor.specs.declared.Finding.{Finding}
 use Rattle.cursor.specs.declared.Finding.the-variants.{Clear, Fault}
+use Rattle.cursor.specs.declared.Body.{Body}
 use Rattle.cursor.specs.declared.Body.the-variants.{Bytes, Refused}
 use Rattle.cursor.specs.declared.Sofar.{Sofar}
-use Rattle.cursor.specs.Steps.{finding, bodyOf, bodyLength, openingChecks, prefixNext, routeNext, Tells}
+use Rattle.cursor.specs.Steps.{finding, bodyOf, bodyLength, openingChecks, bodyChecks, openingBy, endBy, prefixNext, routeNext, Tells}
 
 -- ---- an id among those given before
 
@@ -68,6 +69,11 @@ finding-holds [] e = tt
 finding-holds ((true else r) ∷ checks) e = (tt, finding-holds checks e)
 finding-holds ((false else r) ∷ checks) e = absurd (fault-not-clear e)
 
+pub holds-finding : (checks : List Check) → Holds checks → Clear ≡ finding checks
+holds-finding [] h = refl
+holds-finding ((true else r) ∷ checks) h = holds-finding checks (h .1)
+holds-finding ((false else r) ∷ checks) h = absurd (h .0)
+
 module _ {A : Type 0} where
   pub judged-finding : (checks : List Check) (stop : Refusal → A) (go : Unit {0} → A) → judged checks stop go ≡ onFinding stop go (finding checks)
   unfolding judged
@@ -76,10 +82,10 @@ module _ {A : Type 0} where
   judged-finding ((false else r) ∷ checks) stop go = refl
 
 -- a record that opened has its body
-pub opened : (bs : List ℕ) (at due : ℕ) (astray full : Bool) → Clear ≡ finding (openingChecks bs at due astray full) → at + bodyLength due < length bs
-opened bs at due astray full e =
-    let h : Holds (openingChecks bs at due astray full) = finding-holds (openingChecks bs at due astray full) e in
-    subst (λ (k : ℕ). at + bodyLength k < length bs) (eqb→eq (getD bs at 0) due (h .1 .1 .0)) (ltb→lt _ _ (h .1 .1 .1 .1 .1 .0))
+pub opened : (table : List Form) (bs : List ℕ) (at due : ℕ) (astray full : Bool) → Clear ≡ finding (openingChecks table bs at due astray full) → at + bodyLength table due < length bs
+opened table bs at due astray full e =
+    let h : Holds (openingChecks table bs at due astray full) = finding-holds (openingChecks table bs at due astray full) e in
+    subst (λ (k : ℕ). at + bodyLength table k < length bs) (eqb→eq (getD bs at 0) due (h .1 .1 .0)) (ltb→lt _ _ (h .1 .1 .1 .1 .1 .0))
 
 bytes-not-refused : {n : ℕ} {r : Refusal} → Bytes n ≡ Refused r → ⊥
 bytes-not-refused e = let z : _≡_ {A = ℕ} 0 1 = cc in omega arith
@@ -109,41 +115,42 @@ module _ (k : ℕ) where
       go true e ih = absurd (bytes-not-refused (sym e))
       go false e ih = ih e
 
-  -- the longest body
-  pub body-short : (n : ℕ) → Bytes n ≡ bodyOf k → n ≤ 23
-  body-short n e = subst (λ (m : ℕ). m ≤ 23) (body-known forms n e .1) (short (eqb k 1) (eqb k 2) (eqb k 3) (eqb k 4) (eqb k 5) (eqb k 6))
-    where
-      short : (a b c d e f : Bool) → cond a 1 (cond b 5 (cond c 6 (cond d 5 (cond e 23 (cond f 4 0))))) ≤ 23
-      short true b c d e f = lit≤ tt
-      short false true c d e f = lit≤ tt
-      short false false true d e f = lit≤ tt
-      short false false false true e f = lit≤ tt
-      short false false false false true f = lit≤ tt
-      short false false false false false true = lit≤ tt
-      short false false false false false false = lit≤ tt
+-- whether a body fits, as the code tests it
+pub room-left : (at n m : ℕ) → ltb n (m - at) ≡ ltb (at + n) m
+room-left at n m = go (decLe (suc (at + n)) m)
+  where
+    go : Dec (at + n < m) → ltb n (m - at) ≡ ltb (at + n) m
+    go (yes h) = lt-ltb n (m - at) (omega arith) ∙ sym (lt-ltb (at + n) m h)
+    go (no h) = le-ltb n (m - at) (omega arith) ∙ sym (le-ltb (at + n) m (omega arith))
 
--- the opening as the code goes through it
 module _ (bs : List ℕ) (at due : ℕ) (astray full : Bool) where
-  pub opening-cut : length bs ≤ at → Fault Cut ≡ finding (openingChecks bs at due astray full)
-  opening-cut h = rw (le-ltb at (length bs) h)
+  pub opening-cut : (body : Body) → length bs ≤ at → Fault Cut ≡ finding (openingBy body bs at due astray full)
+  opening-cut body h = rw (le-ltb at (length bs) h)
 
-  module _ (more : at < length bs) where
-    pub opening-kind : (r : Refusal) → Refused r ≡ bodyOf (getD bs at 0) → Fault r ≡ finding (openingChecks bs at due astray full)
-    opening-kind r e =
-        let (unknown, is) = body-unknown (getD bs at 0) forms r e in
-        ap Fault is ∙ sym (ap₂ (λ (a b : Bool). finding ((a else Cut) ∷ (b else Kind) ∷ opening-rest)) (lt-ltb at (length bs) more) unknown)
-      where
-        opening-rest : List Check
-        opening-rest = (eqb (getD bs at 0) due else Place) ∷ (not astray else Place) ∷ (not full else Full) ∷ (ltb (at + bodyLength (getD bs at 0)) (length bs) else Cut) ∷ []
+  -- where there is a kind byte, the rest is judged by the body
+  pub opening-more : {body given : Body} → body ≡ given → at < length bs → finding (bodyChecks given bs at due astray full) ≡ finding (openingBy body bs at due astray full)
+  opening-more {body} {given} e h =
+      ap (λ (body : Body). finding (bodyChecks body bs at due astray full)) (sym e)
+      ∙ sym (ap (λ (b : Bool). cond b (finding (bodyChecks body bs at due astray full)) (Fault Cut)) (lt-ltb at (length bs) h))
 
-    pub opening-whole : (n : ℕ) → Bytes n ≡ bodyOf (getD bs at 0)
-        → finding ((eqb (getD bs at 0) due else Place) ∷ (not astray else Place) ∷ (not full else Full) ∷ (ltb (at + n) (length bs) else Cut) ∷ [])
-        ≡ finding (openingChecks bs at due astray full)
-    opening-whole n e =
-        let (some, is) = body-known (getD bs at 0) forms n e in
-        let rest : ℕ → List Check = λ n. (eqb (getD bs at 0) due else Place) ∷ (not astray else Place) ∷ (not full else Full) ∷ (ltb (at + n) (length bs) else Cut) ∷ [] in
-        ap (λ (n : ℕ). finding (rest n)) (sym is)
-        ∙ sym (ap₂ (λ (a b : Bool). finding ((a else Cut) ∷ (b else Kind) ∷ rest (bodyLength (getD bs at 0)))) (lt-ltb at (length bs) more) some)
+  -- the opening by the body that a table gives is the opening by the table
+  pub opening-table : (table : List Form) (body : Body) → body ≡ bodyOf table (getD bs at 0)
+      → finding (openingBy body bs at due astray full) ≡ finding (openingChecks table bs at due astray full)
+  opening-table table (Refused r) e =
+      let (unknown, is) = body-unknown (getD bs at 0) table r e in
+      let rest : Finding = finding (bodyChecks (Bytes (bodyLength table (getD bs at 0))) bs at due astray full) in
+      ap₂ (λ (b : Bool) (r : Refusal). cond (ltb at (length bs)) (cond b rest (Fault r)) (Fault Cut)) (sym unknown) is
+  opening-table table (Bytes n) e =
+      let (some, is) = body-known (getD bs at 0) table n e in
+      ap₂ (λ (b : Bool) (n : ℕ). finding ((ltb at (length bs) else Cut) ∷ (b else Kind) ∷ bodyChecks (Bytes n) bs at due astray full)) (sym some) (sym is)
+
+  -- a record that opened has the body that is given for its kind
+  pub opened-by : (body : Body) (n : ℕ) → (getD bs at 0 ≡ due → body ≡ Bytes n) → Clear ≡ finding (openingBy body bs at due astray full) → at + n < length bs
+  opened-by (Refused r) n is e = absurd (finding-holds (openingBy (Refused r) bs at due astray full) e .1 .0)
+  opened-by (Bytes m) n is e =
+      let h : Holds (openingBy (Bytes m) bs at due astray full) = finding-holds (openingBy (Bytes m) bs at due astray full) e in
+      let same : Bytes m ≡ Bytes n = is (eqb→eq (getD bs at 0) due (h .1 .0)) in
+      subst (λ (n : ℕ). at + n < length bs) (let d : m ≡ n = cc in d) (ltb→lt _ _ (h .1 .1 .1 .1 .0))
 
 lt-as-le : (a b n : ℕ) → leb (a + suc b) n ≡ ltb (a + b) n
 lt-as-le a b n = go (decLe (a + suc b) n)
@@ -156,38 +163,38 @@ lt-as-le a b n = go (decLe (a + suc b) n)
 abbrev pub extraChecks : Bool → Bool → List Check
 extraChecks astray full = (not astray else Place) ∷ (not full else Full) ∷ []
 
-module _ {A : Type 0} (bs : List ℕ) (at : ℕ) (f : Form) (extra : List Check) (astray full : Bool) (checks : List ℕ → List Check)
-    (stop : Refusal → A) (go : Unit {0} → A) (long : bodyLength (f .kind) ≡ sum (f .widths))
+module _ {A : Type 0} (table : List Form) (bs : List ℕ) (at : ℕ) (f : Form) (extra : List Check) (astray full : Bool) (checks : List ℕ → List Check)
+    (stop : Refusal → A) (go : Unit {0} → A) (long : bodyLength table (f .kind) ≡ sum (f .widths))
     (same : (go : Unit {0} → A) → judged extra stop go ≡ judged (extraChecks astray full) stop go) where
   abbrev front : List Check
-  front = (ltb at (length bs) else Cut) ∷ (known (getD bs at 0) else Kind) ∷ (eqb (getD bs at 0) (f .kind) else Place) ∷ []
+  front = (ltb at (length bs) else Cut) ∷ (known table (getD bs at 0) else Kind) ∷ (eqb (getD bs at 0) (f .kind) else Place) ∷ []
 
   abbrev body : List Check
   body = checks (valuesAt f bs at)
 
   -- a record's judgement: its opening, then its values
-  pub record-found : judged (recordChecks f extra checks (drop at bs)) stop go
-      ≡ onFinding stop (λ _. onFinding stop go (finding (checks (valuesAt f bs at)))) (finding (openingChecks bs at (f .kind) astray full))
+  pub record-found : judged (recordChecks table f extra checks (drop at bs)) stop go
+      ≡ onFinding stop (λ _. onFinding stop go (finding (checks (valuesAt f bs at)))) (finding (openingChecks table bs at (f .kind) astray full))
   record-found =
-      ap (λ (c : List Check). judged c stop go) (record-at bs f extra checks at)
-      ∙ judged-front front (extra ++ ((leb (at + size f) (length bs) else Cut) ∷ body)) (extraChecks astray full ++ ((ltb (at + bodyLength (getD bs at 0)) (length bs) else Cut) ∷ body)) stop go go
+      ap (λ (c : List Check). judged c stop go) (record-at bs table f extra checks at)
+      ∙ judged-front front (extra ++ ((leb (at + size f) (length bs) else Cut) ∷ body)) (extraChecks astray full ++ ((ltb (at + bodyLength table (getD bs at 0)) (length bs) else Cut) ∷ body)) stop go go
       (λ h. judged-append extra _ stop go ∙ same _ ∙ sym (judged-append (extraChecks astray full) _ stop go)
       ∙ ap (λ (b : Bool). judged (extraChecks astray full ++ ((b else Cut) ∷ body)) stop go)
       (lt-as-le at (sum (f .widths)) (length bs)
-      ∙ ap (λ (n : ℕ). ltb (at + n) (length bs)) (sym long ∙ ap bodyLength (sym (eqb→eq (getD bs at 0) (f .kind) (h .1 .1 .0))))))
-      ∙ judged-append (openingChecks bs at (f .kind) astray full) body stop go
-      ∙ judged-finding (openingChecks bs at (f .kind) astray full) stop (λ _. judged body stop go)
-      ∙ ap (λ (x : A). onFinding stop (λ _. x) (finding (openingChecks bs at (f .kind) astray full))) (judged-finding body stop go)
+      ∙ ap (λ (n : ℕ). ltb (at + n) (length bs)) (sym long ∙ ap (bodyLength table) (sym (eqb→eq (getD bs at 0) (f .kind) (h .1 .1 .0))))))
+      ∙ judged-append (openingChecks table bs at (f .kind) astray full) body stop go
+      ∙ judged-finding (openingChecks table bs at (f .kind) astray full) stop (λ _. judged body stop go)
+      ∙ ap (λ (x : A). onFinding stop (λ _. x) (finding (openingChecks table bs at (f .kind) astray full))) (judged-finding body stop go)
 
   -- it stops at its opening, or at its values, or it goes on
-  pub at-opening : {r : Refusal} → Fault r ≡ finding (openingChecks bs at (f .kind) astray full) → stop r ≡ judged (recordChecks f extra checks (drop at bs)) stop go
+  pub at-opening : {r : Refusal} → Fault r ≡ finding (openingChecks table bs at (f .kind) astray full) → stop r ≡ judged (recordChecks table f extra checks (drop at bs)) stop go
   at-opening e = ap (onFinding stop (λ _. onFinding stop go (finding body))) e ∙ sym record-found
 
-  module _ (clear : Clear ≡ finding (openingChecks bs at (f .kind) astray full)) where
-    pub at-values : {r : Refusal} → Fault r ≡ finding (checks (valuesAt f bs at)) → stop r ≡ judged (recordChecks f extra checks (drop at bs)) stop go
+  module _ (clear : Clear ≡ finding (openingChecks table bs at (f .kind) astray full)) where
+    pub at-values : {r : Refusal} → Fault r ≡ finding (checks (valuesAt f bs at)) → stop r ≡ judged (recordChecks table f extra checks (drop at bs)) stop go
     at-values e = ap (onFinding stop go) e ∙ ap (onFinding stop (λ _. onFinding stop go (finding body))) clear ∙ sym record-found
 
-    pub at-end : Clear ≡ finding (checks (valuesAt f bs at)) → go tt ≡ judged (recordChecks f extra checks (drop at bs)) stop go
+    pub at-end : Clear ≡ finding (checks (valuesAt f bs at)) → go tt ≡ judged (recordChecks table f extra checks (drop at bs)) stop go
     at-end e = ap (onFinding stop go) e ∙ ap (onFinding stop (λ _. onFinding stop go (finding body))) clear ∙ sym record-found
 
 -- no check of PLACE or FULL
@@ -195,9 +202,33 @@ pub no-extra : {A : Type 0} (stop : Refusal → A) (go : Unit {0} → A) → jud
 unfolding judged
 no-extra stop go = refl
 
+-- the end record, by the body that a table gives for the kind that stands there
+module _ {A : Type 0} (body : Body) (records : ℕ) (bs : List ℕ) (at : ℕ) (stop : Refusal → A) (go : Unit {0} → A) where
+  abbrev number : List Check
+  number = endValues records (valuesAt endForm bs at)
+
+  end-found : judged (endBy body records bs at) stop go ≡ onFinding stop (λ _. onFinding stop go (finding number)) (finding (openingBy body bs at 6 false false))
+  end-found =
+      judged-append (openingBy body bs at 6 false false) number stop go
+      ∙ judged-finding (openingBy body bs at 6 false false) stop (λ _. judged number stop go)
+      ∙ ap (λ (x : A). onFinding stop (λ _. x) (finding (openingBy body bs at 6 false false))) (judged-finding number stop go)
+
+  pub end-opening : {r : Refusal} → Fault r ≡ finding (openingBy body bs at 6 false false) → stop r ≡ judged (endBy body records bs at) stop go
+  end-opening e = ap (onFinding stop (λ _. onFinding stop go (finding number))) e ∙ sym end-found
+
+  pub end-number : {x : Finding} → Clear ≡ finding (openingBy body bs at 6 false false) → x ≡ finding number → onFinding stop go x ≡ judged (endBy body records bs at) stop go
+  end-number clear e = ap (onFinding stop go) e ∙ ap (onFinding stop (λ _. onFinding stop go (finding number))) clear ∙ sym end-found
+
+  pub end-table : (table : List Form) → bodyLength table 6 ≡ 4 → body ≡ bodyOf table (getD bs at 0)
+      → judged (endBy body records bs at) stop go ≡ judged (endRecord table records (drop at bs)) stop go
+  unfolding endRecord
+  end-table table long e =
+      end-found ∙ ap (onFinding stop (λ _. onFinding stop go (finding number))) (opening-table bs at 6 false false table body e)
+      ∙ sym (record-found table bs at endForm [] false false (endValues records) stop go long (no-extra stop))
+
 -- ---- what is known of those before a prefix or a route
 
-ltb-leb : (a b : ℕ) → ltb a b ≡ not (leb b a)
+pub ltb-leb : (a b : ℕ) → ltb a b ≡ not (leb b a)
 ltb-leb a b = go (decLe b a)
   where
     go : Dec (b ≤ a) → ltb a b ≡ not (leb b a)
@@ -226,7 +257,7 @@ module _ {s : Snapshot} {k : Sofar} (t : Tells s k) where
   pub prefix-told : (bs : List ℕ) → prefixRecord s bs ≡ prefixNext k bs
   unfolding prefixRecord prefixNext
   prefix-told bs =
-      ap₂ (λ (n : ℕ) (values : List ℕ → List Check). recordChecks prefixForm (prefixRoom n) values bs)
+      ap₂ (λ (n : ℕ) (values : List ℕ → List Check). recordChecks forms prefixForm (prefixRoom n) values bs)
       (sym (t .prefixes))
       (fun-ext (λ v. ap (λ (b : Bool). (none (prefixTests (getD v 0 0) (getD v 1 0)) else Field) ∷ (b else Order) ∷ []) (t .above (getD v 0 0) (getD v 1 0))))
 
@@ -236,5 +267,5 @@ module _ {s : Snapshot} {k : Sofar} (t : Tells s k) where
   pub route-told : (bs : List ℕ) → routeRecord s bs ≡ routeNext k bs
   unfolding routeRecord routeNext
   route-told bs =
-      ap₂ (λ (room : List Check) (values : List ℕ → List Check). recordChecks routeForm room values bs) room-told
+      ap₂ (λ (room : List Check) (values : List ℕ → List Check). recordChecks forms routeForm room values bs) room-told
       (fun-ext (λ v. ap₂ (λ (n : ℕ) (b : Bool). (none (routeTests n (routeOf v)) else Field) ∷ (b else Order) ∷ []) (sym (t .routers)) (t .beyond (routeOf v))))

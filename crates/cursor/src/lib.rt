@@ -1,5 +1,6 @@
 // The reader's place in a snapshot. A cursor is passed by value; each of its methods judges the record at its place as one kind of
-// record and hands back the next cursor with what the record says, or a refusal with its place.
+// record and hands back the next cursor with what the record says, or a refusal with its place. `opens` and `ends` serve every file of
+// this record habit: they go by the body that the file's own table of kinds gives.
 ghost use mathlib.Core.Path.{_≡_};
 ghost use mathlib.Core.Bool.{cond};
 ghost use mathlib.Core.List.{[], _∷_};
@@ -8,14 +9,17 @@ ghost use lib.Dec.{eqb};
 ghost use lib.ListN.{length, getD, take, drop};
 ghost use Rattle.model.specs.Rows.{some};
 ghost use Rattle.snapshot.specs.Plain.{routeIs};
-ghost use Rattle.snapshot.specs.Records.{countForm, routerForm, distanceForm, prefixForm, routeForm, valuesAt};
+ghost use Rattle.snapshot.specs.Records.{forms, countForm, routerForm, distanceForm, prefixForm, routeForm, valuesAt};
 ghost use Rattle.snapshot.specs.Format.{countChecks, routerChecks, distanceChecks, endChecks};
 ghost use Rattle.snapshot.specs.Reading.{countRecord, routerRecord, distanceRecord, endRecord};
 ghost use Rattle.cursor.specs.declared.Finding.the-variants.{Fault};
+ghost use Rattle.cursor.specs.declared.Body.the-variants.{Bytes};
 ghost use Rattle.cursor.specs.Steps.{
   finding,
   bodyOf,
+  openingBy,
   openingChecks,
+  endBy,
   behind,
   after,
   due,
@@ -95,7 +99,7 @@ pub enum EndStep {
 
 // Kinds 0 and 7 to 255 are refused as KIND.
 fn body_length(kind: u8) -> Body
-    ensures { λ r. ⌜ r ≡ bodyOf kind ⌝ }
+    ensures { λ r. ⌜ r ≡ bodyOf forms kind ⌝ }
 {
     match kind {
         1 => Body::Bytes(1),
@@ -109,7 +113,7 @@ fn body_length(kind: u8) -> Body
 }
 
 // One check before the rest of them.
-fn check(holds: bool, refusal: Refusal, rest: Finding) -> Finding
+pub fn check(holds: bool, refusal: Refusal, rest: Finding) -> Finding
     ensures { λ r. ⌜ r ≡ cond holds rest (Fault refusal) ⌝ }
 {
     if holds { rest } else { Finding::Fault(refusal) }
@@ -245,31 +249,40 @@ pub fn kind_at(input: &[u8], at: usize) -> u8
 }
 
 impl Cursor {
-    // The checks that every record has before its values: CUT for the kind byte, KIND, PLACE, FULL, CUT for the body.
-    fn opening(self, input: &[u8], due: u8, astray: bool, full: bool) -> Finding
-        ensures { λ r. ⌜ r ≡ finding (openingChecks (now (input .entry)) (self .at) due astray full) ⌝ }
+    // The checks that every record has before its values: CUT for the kind byte, KIND, PLACE, FULL, CUT for the body. Given is the body
+    // of the kind that stands there.
+    pub fn opens(self, input: &[u8], body: Body, due: u8, astray: bool, full: bool) -> Finding
+        ensures { λ r. ⌜ r ≡ finding (openingBy body (now (input .entry)) (self .at) due astray full) ⌝ }
     {
         let at = self.at;
         if input.len() <= at {
             return Finding::Fault(Refusal::Cut);
         }
         let kind = input[at];
-        match body_length(kind) {
+        match body {
             Body::Refused(r) => Finding::Fault(r),
             Body::Bytes(n) => {
-                let whole = at + n < input.len();
-                let body = check(whole, Refusal::Cut, Finding::Clear);
+                let whole = n < input.len() - at;
+                let cut = check(whole, Refusal::Cut, Finding::Clear);
                 check(
                     kind == due,
                     Refusal::Place,
-                    check(!astray, Refusal::Place, check(!full, Refusal::Full, body)),
+                    check(!astray, Refusal::Place, check(!full, Refusal::Full, cut)),
                 )
             }
         }
     }
 
+    // The opening of a record of a snapshot.
+    fn opening(self, input: &[u8], due: u8, astray: bool, full: bool) -> Finding
+        ensures { λ r. ⌜ r ≡ finding (openingChecks forms (now (input .entry)) (self .at) due astray full) ⌝ }
+    {
+        let body = body_length(kind_at(input, self.at));
+        self.opens(input, body, due, astray, full)
+    }
+
     // The cursor behind a record of so many bytes.
-    fn past(self, size: usize) -> Cursor
+    pub fn past(self, size: usize) -> Cursor
         requires { ⌜ (self .records ≤ self .at) × (self .at + size ≤ 9223372036854775807) × (1 ≤ size) ⌝ }
         ensures { λ r. ⌜ r ≡ behind self size ⌝ }
     {
@@ -382,13 +395,14 @@ impl Cursor {
         }
     }
 
-    // Kind 6: the end, and then nothing.
-    pub fn end(self, input: &[u8]) -> EndStep
-        ensures { λ r. ⌜ endSaid r ≡ judgedAt (self .at) (endRecord (self .records) (drop (self .at) (now (input .entry))))
+    // Kind 6 in every file: the end, with a body of 4 bytes, and then nothing. Given is the body of the kind that stands there.
+    pub fn ends(self, input: &[u8], body: Body) -> EndStep
+        requires { ⌜ (getD (now input) (self .at) 0 ≡ 6 → body ≡ Bytes 4) ⌝ }
+        ensures { λ r. ⌜ endSaid r ≡ judgedAt (self .at) (endBy body (self .records) (now (input .entry)) (self .at))
             (ending (now (input .entry)) (self .at + 5)) ⌝ }
     {
         let at = self.at;
-        match self.opening(input, 6, false, false) {
+        match self.opens(input, body, 6, false, false) {
             Finding::Fault(f) => EndStep::Refused(f, at),
             Finding::Clear => match end_faults(self.records, wire::get32(input, at + 1)) {
                 Finding::Fault(f) => EndStep::Refused(f, at),
@@ -401,5 +415,14 @@ impl Cursor {
                 }
             },
         }
+    }
+
+    // The end of a snapshot.
+    pub fn end(self, input: &[u8]) -> EndStep
+        ensures { λ r. ⌜ endSaid r ≡ judgedAt (self .at) (endRecord forms (self .records) (drop (self .at) (now (input .entry))))
+            (ending (now (input .entry)) (self .at + 5)) ⌝ }
+    {
+        let body = body_length(kind_at(input, self.at));
+        self.ends(input, body)
     }
 }

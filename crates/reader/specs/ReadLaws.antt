@@ -1,13 +1,11 @@
 -- The ways out of reading, each with what it answers and leaves.
-use Prim.Native.Nat.{ℕ, suc, _≤_, _<_}
+use Prim.Native.Nat.{ℕ, _≤_}
 use native.Mathlib.Omega.{arith}
 use mathlib.Core.Path.{_≡_, refl, sym, ap, ap₂, _∙_, subst, subst₂}
 use mathlib.Core.Bool.{Bool, true, false, cond}
-use mathlib.Core.List.{List, [], _∷_}
-use lib.ListN.{getD}
-use lib.Dec.{T, ltb, lt→ltb}
+use mathlib.Core.List.{List}
+use lib.Dec.{T}
 use lib.Pow.{areBytes}
-use mir.Facts.{yes-and}
 use Rattle.refusal.specs.declared.Refusal.{Refusal}
 use Rattle.refusal.specs.declared.Refusal.the-variants.{Room}
 use Rattle.refusal.specs.Numbers.{refuses}
@@ -81,11 +79,6 @@ spanned bs {c} bytes e =
       subst₂ (λ (l : List ℕ) (c : Counts). Spans l (c .routers)) (sym written) (sym counts) (spans s valid),
       subst (λ (c : Counts). c .prefixes ≤ mostPrefixes) (sym counts) (valid .fewPrefixes),
     )
-
--- a slice of bytes holds bytes
-pub slice-bytes : (bs : List ℕ) → ((k : ℕ) → getD bs k 0 < 256) → T (areBytes bs)
-slice-bytes [] h = tt
-slice-bytes (b ∷ bs) h = yes-and (ltb b 256) (areBytes bs) (lt→ltb b 256 (h 0)) (slice-bytes bs (λ k. h (suc k)))
 
 -- ---- what an answer tells of the bytes, where each table has room
 

@@ -20,7 +20,7 @@ use Rattle.snapshot.specs.declared.Route.{Route}
 use Rattle.snapshot.specs.Limits.{mostRouters, mostPrefixes, mostInPrefix, mostRoutes}
 use Rattle.snapshot.specs.Ranges.{rises, risesRoute}
 use Rattle.snapshot.specs.Plain.{routeIs}
-use Rattle.snapshot.specs.Records.{countForm, routerForm, distanceForm, prefixForm, routeForm, endForm, size, valuesAt}
+use Rattle.snapshot.specs.Records.{forms, countForm, routerForm, distanceForm, prefixForm, routeForm, endForm, size, valuesAt}
 use Rattle.snapshot.specs.Format.{Snapshot, Prefix, Pair, pairs, row, rows, records, routesIn, latest, Check, Holds}
 use Rattle.snapshot.specs.Reading.{Answer, accepted, refused, unless, prefixExtra, prefixValues, prefixRecord, routeExtra, routeValues, routeRecord, endRecord, openRoutes, addRoute, withPrefixes, prefixOf, routeOf, tail, items, distanceRecord, distances, routerRecord, routers, countValues, countRecord, reading}
 use Rattle.snapshot.specs.ChecksLaws.{judged-cases, passed, count-range, length-snoc, latest-snoc, routesIn-append, routesIn-add, length-add, some-prefix}
@@ -100,7 +100,7 @@ module _ (bs : List ℕ) where
   count-next {c = c} {n = n} ids room taken e =
       let (h, at, is, go) = step-took (countRecord bs) 0 (after begin countForm) countAt
       (λ _. routers countAt countAt [] (size countForm) (drop (size countForm) bs)) e taken in
-      let (low, high) = count-range countAt (passed countForm [] countValues bs h .good .0) in
+      let (low, high) = count-range countAt (passed forms countForm [] countValues bs h .good .0) in
       let few : n ≤ mostRouters = rw is high in
       record {
         within = zero-le;
@@ -380,7 +380,7 @@ module _ {bs : List ℕ} {c : Cursor} {k : Sofar} (i : Items bs c k) where
         let same : prefixStep.Took (after c prefixForm) (networkAt bs at) ≡ prefixStep.Took next p = prefix-tells (prefixStep.Took (after c prefixForm) (networkAt bs at)) x d ∙ taken in
         let to : after c prefixForm ≡ next = cc in
         let is : networkAt bs at ≡ p = cc in
-        let q = passed prefixForm (prefixExtra (i .s)) (prefixValues (i .s)) (drop at bs) hold in
+        let q = passed forms prefixForm (prefixExtra (i .s)) (prefixValues (i .s)) (drop at bs) hold in
         let few : length (i .s .prefixes) < mostPrefixes = ltb→lt _ _ (q .free .0) in
         let count : k .prefixes ≡ length (i .s .prefixes) = i .tells .prefixes in
         let ps = i .s .prefixes in
@@ -439,7 +439,7 @@ module _ {bs : List ℕ} {c : Cursor} {k : Sofar} (i : Items bs c k) where
         let same : routeStep.Took (after c routeForm) (routeAt bs at) ≡ routeStep.Took next r = route-tells (routeStep.Took (after c routeForm) (routeAt bs at)) x d ∙ taken in
         let to : after c routeForm ≡ next = cc in
         let is : routeAt bs at ≡ r = cc in
-        let q = passed routeForm (routeExtra (i .s)) (routeValues (i .s)) (drop at bs) hold in
+        let q = passed forms routeForm (routeExtra (i .s)) (routeValues (i .s)) (drop at bs) hold in
         let ps = i .s .prefixes in
         let some = q .free .0 in
         let few : length (openRoutes ps) < mostInPrefix = ltb→lt _ _ (q .free .1 .0) in
@@ -464,12 +464,12 @@ module _ {bs : List ℕ} {c : Cursor} {k : Sofar} (i : Items bs c k) where
   -- ---- the end
   module _ (no4 : getD bs (c .at) 0 ≢ 4) (no5 : getD bs (c .at) 0 ≢ 5) where
     abbrev endStepOf : Said
-    endStepOf = judgedAt at (endRecord (c .records) (drop at bs)) (ending bs (at + 5))
+    endStepOf = judgedAt at (endRecord forms (c .records) (drop at bs)) (ending bs (at + 5))
 
-    last : reading bs ≡ unless (endRecord (c .records) (drop at bs)) at λ _. tail (i .s) (at + size endForm) (drop (at + size endForm) bs)
+    last : reading bs ≡ unless (endRecord forms (c .records) (drop at bs)) at λ _. tail (i .s) (at + size endForm) (drop (at + size endForm) bs)
     last =
         i .same ∙ items-last bs at (i .s) no4 no5
-        ∙ ap (λ (n : ℕ). unless (endRecord n (drop at bs)) at λ _. tail (i .s) (at + size endForm) (drop (at + size endForm) bs)) (sym (i .count))
+        ∙ ap (λ (n : ℕ). unless (endRecord forms n (drop at bs)) at λ _. tail (i .s) (at + size endForm) (drop (at + size endForm) bs)) (sym (i .count))
 
     counts-told : answered k endStep.Ended ≡ told (accepted (i .s))
     counts-told =
@@ -490,7 +490,7 @@ module _ {bs : List ℕ} {c : Cursor} {k : Sofar} (i : Items bs c k) where
       pub end-answer : endSaid x ≡ endStepOf → answered k y ≡ told (reading bs)
       end-answer e =
           ap (answered k) (sym is)
-          ∙ judged-cases (endRecord (c .records) (drop at bs)) (λ f. refuses f at) (λ _. ending bs (at + 5))
+          ∙ judged-cases (endRecord forms (c .records) (drop at bs)) (λ f. refuses f at) (λ _. ending bs (at + 5))
           (λ r. refused r at) (λ _. tail (i .s) (at + size endForm) (drop (at + size endForm) bs)) (endSaid x) (sym e)
           (λ r d h. ap (answered k) (end-tells x (endStep.Refused r at) (sym d)) ∙ sym (ap told (last ∙ h)))
           (λ p d h. tail-answer (decLe (suc (at + 5)) (length bs)) d ∙ sym (ap told (last ∙ h)))

@@ -12,7 +12,7 @@ use Rattle.wire.specs.NumbersLaws.{bytes-drop}
 use Rattle.snapshot.specs.Limits.{mostInPrefix, mostRoutes}
 use Rattle.snapshot.specs.Ranges.{none, countTests, idTests, distanceTests, pairTests}
 use Rattle.snapshot.specs.RangesLaws.{none-split}
-use Rattle.snapshot.specs.Records.{Form, countForm, routerForm, distanceForm, prefixForm, routeForm, endForm, written, kind, values, size}
+use Rattle.snapshot.specs.Records.{Form, countForm, routerForm, distanceForm, prefixForm, routeForm, endForm, forms, written, kind, values, size}
 use Rattle.snapshot.specs.RecordsLaws.{split-written, fits-values}
 use Rattle.snapshot.specs.Format.{Prefix, Snapshot, Pair, pairs, Holds, Each, GoodId, GoodDistance, GoodRoute, GoodPrefix, Valid, routesIn, routersBytes, distancesBytes, prefixesBytes, routeFields, encodeOpen, encode, records}
 use Rattle.snapshot.specs.Reading.{accepted, openRoutes, addRoute, withPrefixes, withPrefix, withRoute, prefixOf, routeOf, prefixExtra, prefixValues, prefixRecord, routeExtra, routeValues, routeRecord, endValues, endRecord, tail, item, itemsWithin, items, distanceValues, distanceRecord, distances, routerValues, routerRecord, routers, countValues, countRecord, reading}
@@ -45,7 +45,7 @@ module _ (W : List ℕ) (s : Snapshot) (bs : List ℕ) (c : SoFar W s bs) where
   prefix-read e =
       let ps : List Prefix = s .prefixes in
       let p : Prefix = prefixOf (values prefixForm bs) in
-      let h = passed prefixForm (prefixExtra s) (prefixValues s) bs e in
+      let h = passed forms prefixForm (prefixExtra s) (prefixValues s) bs e in
       record {
         bytes = bytes-drop 6 bs (c .bytes);
         written-is = moved prefixForm (ps ++ (p ∷ [])) (h .due) (h .whole) (prefixes-append ps (p ∷ []));
@@ -68,7 +68,7 @@ module _ (W : List ℕ) (s : Snapshot) (bs : List ℕ) (c : SoFar W s bs) where
       let r : Route = routeOf (values routeForm bs) in
       let n : ℕ = length (s .ids) in
       let ps : List Prefix = s .prefixes in
-      let h = passed routeForm (routeExtra s) (routeValues s) bs e in
+      let h = passed forms routeForm (routeExtra s) (routeValues s) bs e in
       let one : T (not (eqb (length ps) 0)) = h .free .0 in
       let size : length (addRoute ps r) ≡ length ps = some-prefix (λ ps. length (addRoute ps r) ≡ length ps) (λ p ps. length-add p ps r) ps one in
       let more : routesIn (addRoute ps r) ≡ suc (routesIn ps) =
@@ -91,12 +91,12 @@ module _ (W : List ℕ) (s : Snapshot) (bs : List ℕ) (c : SoFar W s bs) where
         };
       }
 
-  at-end : (t : Snapshot) (at : ℕ) → Holds (endRecord (records s) bs) → tail s at (drop 5 bs) ≡ accepted t → Sound W t
+  at-end : (t : Snapshot) (at : ℕ) → Holds (endRecord forms (records s) bs) → tail s at (drop 5 bs) ≡ accepted t → Sound W t
   unfolding endRecord
   at-end t at e r = go (drop 5 bs) refl r
     where
       h : Passed endForm [] (endValues (records s)) bs
-      h = passed endForm [] (endValues (records s)) bs e
+      h = passed forms endForm [] (endValues (records s)) bs e
 
       go : (rest : List ℕ) → drop 5 bs ≡ rest → tail s at rest ≡ accepted t → Sound W t
       go [] d r =
@@ -122,7 +122,7 @@ items-sound (suc fuel) W t s at bs c e =
     let (b, go) = unless-accepted (routeRecord s bs) at _ t go in
     items-sound fuel W t (withRoute s bs) (at + 24) (drop 24 bs) (route-read W s bs c b) go)
     (λ _ go.
-    let (b, go) = unless-accepted (endRecord (records s) bs) at _ t go in
+    let (b, go) = unless-accepted (endRecord forms (records s) bs) at _ t go in
     at-end W s bs c t (at + 5) b go))
 
 -- ---- the distances
@@ -163,7 +163,7 @@ module _ (W : List ℕ) (t : Snapshot) (ids : List ℕ) (some : T (none (countTe
       }) e
   distances-sound (p ∷ due) ds at bs bytes w l d g e =
       let (z, go) = unless-accepted (distanceRecord (length ids) p bs) at _ t e in
-      let h = passed distanceForm [] (distanceValues (length ids) p) bs z in
+      let h = passed forms distanceForm [] (distanceValues (length ids) p) bs z in
       let x : ℕ = getD (values distanceForm bs) 2 0 in
       let ps : List Pair = pairs (length ids) in
       let split : bs ≡ written distanceForm (p .from ∷ p .to ∷ x ∷ []) ++ drop 7 bs =
@@ -195,7 +195,7 @@ module _ (W : List ℕ) (t : Snapshot) (n : ℕ) (some : T (none (countTests n))
       (w ∙ ap (λ (m : ℕ). written countForm (m ∷ []) ++ (routersBytes 0 ids ++ bs)) is) (omega arith) refl tt e
   routers-sound (suc left) ids at bs bytes w l g e =
       let (z, go) = unless-accepted (routerRecord n ids bs) at _ t e in
-      let h = passed routerForm [] (routerValues n ids) bs z in
+      let h = passed forms routerForm [] (routerValues n ids) bs z in
       let x : ℕ = getD (values routerForm bs) 1 0 in
       let split : bs ≡ written routerForm ((0 + length ids) ∷ x ∷ []) ++ drop 6 bs =
       split-written routerForm bs bytes (h .due) (h .whole)
@@ -215,7 +215,7 @@ pub reading-sound : (bs : List ℕ) (s : Snapshot) → T (areBytes bs) → readi
 unfolding reading countRecord
 reading-sound bs s bytes e =
     let (z, go) = unless-accepted (countRecord bs) 0 _ s e in
-    let h = passed countForm [] countValues bs z in
+    let h = passed forms countForm [] countValues bs z in
     let n : ℕ = getD (values countForm bs) 0 0 in
     routers-sound bs s n (h .good .0) n [] 2 (drop 2 bs) (bytes-drop 2 bs bytes)
     (split-written countForm bs bytes (h .due) (h .whole)) (omega arith) tt go

@@ -13,10 +13,10 @@ use borrow.Author.Tests.{le-leb, lt-leb}
 use Rattle.refusal.specs.declared.Refusal.the-variants.{Cut, Kind, Place}
 use Rattle.model.specs.Decision.{Route}
 use Rattle.snapshot.specs.Limits.{mostRouters, mostPrefixes, mostRoutes}
-use Rattle.snapshot.specs.Records.{Form, countForm, routerForm, distanceForm, prefixForm, routeForm, endForm, size, known, kind, values}
+use Rattle.snapshot.specs.Records.{Form, countForm, routerForm, distanceForm, prefixForm, routeForm, endForm, forms, size, known, kind, values}
 use Rattle.snapshot.specs.RecordsLaws.{fields-take}
 use Rattle.snapshot.specs.Format.{Prefix, Snapshot, Pair, pairs, Check, _else_, Holds, routesIn, records}
-use Rattle.snapshot.specs.Reading.{Answer, refused, unless, either, isNil, prefixRecord, routeRecord, endRecord, distanceRecord, routerRecord, countRecord, recordChecks, prefixExtra, prefixValues, routeExtra, routeValues, endValues, tail, item, items, prefixOf, routeOf, withPrefixes, withPrefix, withRoute, addRoute, distanceValues, distances, routerValues, routers, countValues, reading}
+use Rattle.snapshot.specs.Reading.{AnswerOf, refused, unless, either, isNil, prefixRecord, routeRecord, endRecord, distanceRecord, routerRecord, countRecord, recordChecks, prefixExtra, prefixValues, routeExtra, routeValues, endValues, tail, item, items, prefixOf, routeOf, withPrefixes, withPrefix, withRoute, addRoute, distanceValues, distances, routerValues, routers, countValues, reading}
 use Rattle.snapshot.specs.ChecksLaws.{judged-same, judged-front, Passed, passed, count-range, length-snoc, routesIn-append, routesIn-add, length-add, some-prefix}
 use Rattle.snapshot.specs.SectionsLaws.{drop-shorter, items-step}
 use Rattle.snapshot.specs.PairsLaws.{pairs-length}
@@ -39,7 +39,7 @@ enough-take k m bs h = go (decLe k (length bs))
     go (yes e) = le-leb k (length (take m bs)) (omega (arith, l)) ∙ sym (le-leb k (length bs) e)
     go (no e) = lt-leb k (length (take m bs)) (omega (arith, l)) ∙ sym (lt-leb k (length bs) (omega arith))
 
-kind-take : (m : ℕ) (bs : List ℕ) → 1 ≤ m → kind bs ≡ kind (take m bs)
+pub kind-take : (m : ℕ) (bs : List ℕ) → 1 ≤ m → kind bs ≡ kind (take m bs)
 kind-take zero bs h = absurd (not-suc-le-zero h)
 kind-take (suc m) [] h = refl
 kind-take (suc m) (b ∷ bs) h = refl
@@ -49,7 +49,7 @@ nil-take zero bs h = absurd (not-suc-le-zero h)
 nil-take (suc m) [] h = refl
 nil-take (suc m) (b ∷ bs) h = refl
 
-tail-take : (s : Snapshot) (at m : ℕ) (bs : List ℕ) → 1 ≤ m → tail s at bs ≡ tail s at (take m bs)
+pub tail-take : {A : Type 0} (s : A) (at m : ℕ) (bs : List ℕ) → 1 ≤ m → tail s at bs ≡ tail s at (take m bs)
 tail-take s at zero bs h = absurd (not-suc-le-zero h)
 tail-take s at (suc m) [] h = refl
 tail-take s at (suc m) (b ∷ bs) h = refl
@@ -58,22 +58,27 @@ module _ (m : ℕ) (bs : List ℕ) where
   values-take : (f : Form) → size f ≤ m → values f (take m bs) ≡ values f bs
   values-take f h = fields-take (f .widths) m bs 1 (omega arith)
 
-  record-take : (f : Form) (extra : List Check) (checks : List ℕ → List Check) (at : ℕ) (go go′ : Unit {0} → Answer) → 1 ≤ m → (Holds extra → size f ≤ m)
-      → (Passed f extra checks bs → go tt ≡ go′ tt)
-      → unless (recordChecks f extra checks bs) at go ≡ unless (recordChecks f extra checks (take m bs)) at go′
+  -- what comes after the record depends on its values and on the bytes behind it
+  pub record-take : {A : Type 0} (table : List Form) (f : Form) (extra : List Check) (checks : List ℕ → List Check) (at : ℕ) (after : List ℕ → List ℕ → AnswerOf A) → 1 ≤ m → (Holds extra → size f ≤ m)
+      → (Passed f extra checks bs → after (values f bs) (drop (size f) bs) ≡ after (values f bs) (take (m - size f) (drop (size f) bs)))
+      → unless (recordChecks table f extra checks bs) at (λ _. after (values f bs) (drop (size f) bs))
+      ≡ unless (recordChecks table f extra checks (take m bs)) at (λ _. after (values f (take m bs)) (drop (size f) (take m bs)))
   unfolding recordChecks
-  record-take f extra checks at go go′ one h e =
+  record-take {A} table f extra checks at after one h e =
+      let go : Unit {0} → AnswerOf A = λ _. after (values f bs) (drop (size f) bs) in
+      let go′ : Unit {0} → AnswerOf A = λ _. after (values f (take m bs)) (drop (size f) (take m bs)) in
       let body : List ℕ → List Check = λ l. (leb (size f) (length l) else Cut) ∷ checks (values f l) in
-      let front : List ℕ → List Check = λ l. (not (isNil l) else Cut) ∷ (known (kind l) else Kind) ∷ (eqb (kind l) (f .kind) else Place) ∷ extra in
+      let front : List ℕ → List Check = λ l. (not (isNil l) else Cut) ∷ (known table (kind l) else Kind) ∷ (eqb (kind l) (f .kind) else Place) ∷ extra in
       let same : front bs ≡ front (take m bs) =
-      ap₂ (λ (n : Bool) (k : ℕ). (not n else Cut) ∷ (known k else Kind) ∷ (eqb k (f .kind) else Place) ∷ extra) (nil-take m bs one) (kind-take m bs one) in
-      judged-same (recordChecks f extra checks bs) (λ r. refused r at) go go′ (λ p. e (passed f extra checks bs p))
+      ap₂ (λ (n : Bool) (k : ℕ). (not n else Cut) ∷ (known table k else Kind) ∷ (eqb k (f .kind) else Place) ∷ extra) (nil-take m bs one) (kind-take m bs one) in
+      judged-same (recordChecks table f extra checks bs) (λ r. refused r at) go go′
+      (λ p. let z = passed table f extra checks bs p in e z ∙ sym (ap₂ after (values-take f (h (z .free))) (drop-take (size f) m bs (h (z .free)))))
       ∙ ap (λ (c : List Check). unless (c ++ body bs) at go′) same
       ∙ judged-front (front (take m bs)) (body bs) (body (take m bs)) (λ r. refused r at) go′ go′
       (λ hf. ap₂ (λ (b : Bool) (v : List ℕ). unless ((b else Cut) ∷ checks v) at go′)
       (sym (enough-take (size f) m bs (h (hf .1 .1 .1)))) (sym (values-take f (h (hf .1 .1 .1)))))
 
-either-both : (b b′ : Bool) (f g f′ g′ : Unit {0} → Answer) → b ≡ b′ → (T b → f tt ≡ f′ tt) → (T (not b) → g tt ≡ g′ tt) → either b f g ≡ either b′ f′ g′
+pub either-both : {A : Type 0} (b b′ : Bool) (f g f′ g′ : Unit {0} → A) → b ≡ b′ → (T b → f tt ≡ f′ tt) → (T (not b) → g tt ≡ g′ tt) → either b f g ≡ either b′ f′ g′
 unfolding either
 either-both true b′ f g f′ g′ e h l = h tt ∙ ap (λ (b : Bool). either b f′ g′) e
 either-both false b′ f g f′ g′ e h l = l tt ∙ ap (λ (b : Bool). either b f′ g′) e
@@ -94,16 +99,14 @@ items-take (suc count) s at (b ∷ bs) m l need =
     let ps : List Prefix = s .prefixes in
     items-step s at all
     ∙ either-both _ _ _ _ _ _ (ap (λ (k : ℕ). eqb k 4) (kind-take m all (omega arith)))
-    (λ _. record-take m all prefixForm (prefixExtra s) (prefixValues s) at _ _ (omega arith) (λ h. let q : length ps < mostPrefixes = ltb→lt _ _ (h .0) in omega arith)
+    (λ _. record-take m all forms prefixForm (prefixExtra s) (prefixValues s) at (λ v. items (withPrefixes s (ps ++ (prefixOf v ∷ []))) (at + 6)) (omega arith) (λ h. let q : length ps < mostPrefixes = ltb→lt _ _ (h .0) in omega arith)
     (λ z.
     let few : length ps < mostPrefixes = ltb→lt _ _ (z .free .0) in
     let one = length-snoc ps (prefixOf (values prefixForm all)) in
     let none = routesIn-append ps (prefixOf (values prefixForm all) ∷ []) in
-    items-take count (withPrefix s all) (at + 6) (drop 5 bs) (m - 6) (drop-shorter 5 bs count l) (omega arith)
-    ∙ sym (ap₂ (λ (v l : List ℕ). items (withPrefixes s (ps ++ (prefixOf v ∷ []))) (at + 6) l)
-    (values-take m all prefixForm (omega arith)) (drop-take 6 m all (omega arith)))))
+    items-take count (withPrefix s all) (at + 6) (drop 5 bs) (m - 6) (drop-shorter 5 bs count l) (omega arith)))
     (λ _. either-both _ _ _ _ _ _ (ap (λ (k : ℕ). eqb k 5) (kind-take m all (omega arith)))
-    (λ _. record-take m all routeForm (routeExtra s) (routeValues s) at _ _ (omega arith) (λ h. let q : routesIn ps < mostRoutes = ltb→lt _ _ (h .1 .1 .0) in omega arith)
+    (λ _. record-take m all forms routeForm (routeExtra s) (routeValues s) at (λ v. items (withPrefixes s (addRoute ps (routeOf v))) (at + 24)) (omega arith) (λ h. let q : routesIn ps < mostRoutes = ltb→lt _ _ (h .1 .1 .0) in omega arith)
     (λ z.
     let free = z .free in
     let few : routesIn ps < mostRoutes = ltb→lt _ _ (free .1 .1 .0) in
@@ -111,11 +114,9 @@ items-take (suc count) s at (b ∷ bs) m l need =
     let same : length (addRoute ps r) ≡ length ps = some-prefix (λ ps. length (addRoute ps r) ≡ length ps) (λ p ps. length-add p ps r) ps (free .0) in
     let more : routesIn (addRoute ps r) ≡ suc (routesIn ps) =
     some-prefix (λ ps. routesIn (addRoute ps r) ≡ suc (routesIn ps)) (λ p ps. routesIn-add p ps r) ps (free .0) in
-    items-take count (withRoute s all) (at + 24) (drop 23 bs) (m - 24) (drop-shorter 23 bs count l) (omega arith)
-    ∙ sym (ap₂ (λ (v l : List ℕ). items (withPrefixes s (addRoute ps (routeOf v))) (at + 24) l)
-    (values-take m all routeForm (omega arith)) (drop-take 24 m all (omega arith)))))
-    (λ _. record-take m all endForm [] (endValues (records s)) at _ _ (omega arith) (λ h. omega arith)
-    (λ z. tail-take s (at + 5) (m - 5) (drop 4 bs) (omega arith) ∙ ap (tail s (at + 5)) (sym (drop-take 5 m all (omega arith))))))
+    items-take count (withRoute s all) (at + 24) (drop 23 bs) (m - 24) (drop-shorter 23 bs count l) (omega arith)))
+    (λ _. record-take m all forms endForm [] (endValues (records s)) at (λ _. tail s (at + 5)) (omega arith) (λ h. omega arith)
+    (λ z. tail-take s (at + 5) (m - 5) (drop 4 bs) (omega arith))))
     ∙ sym (items-step s at (take m all))
 
 distances-take : (due : List Pair) (ids ds : List ℕ) (at : ℕ) (bs : List ℕ) (m : ℕ) → 7 * length due + 24966 ≤ m
@@ -123,10 +124,8 @@ distances-take : (due : List Pair) (ids ds : List ℕ) (at : ℕ) (bs : List ℕ
 unfolding distances distanceRecord
 distances-take [] ids ds at bs m h = items-take (length bs) _ at bs m (le-refl (length bs)) (omega arith)
 distances-take (p ∷ due) ids ds at bs m h =
-    record-take m bs distanceForm [] (distanceValues (length ids) p) at _ _ (omega arith) (λ _. omega arith)
-    (λ z. distances-take due ids _ (at + 7) (drop 7 bs) (m - 7) (omega arith)
-    ∙ sym (ap₂ (λ (v l : List ℕ). distances due ids (ds ++ (getD v 2 0 ∷ [])) (at + 7) l)
-    (values-take m bs distanceForm (omega arith)) (drop-take 7 m bs (omega arith))))
+    record-take m bs forms distanceForm [] (distanceValues (length ids) p) at (λ v. distances due ids (ds ++ (getD v 2 0 ∷ [])) (at + 7)) (omega arith) (λ _. omega arith)
+    (λ z. distances-take due ids _ (at + 7) (drop 7 bs) (m - 7) (omega arith))
 
 routers-take : (n left : ℕ) (ids : List ℕ) (at : ℕ) (bs : List ℕ) (m : ℕ) → length ids + left ≡ n → n ≤ mostRouters → 6 * left + 53190 ≤ m
     → routers n left ids at bs ≡ routers n left ids at (take m bs)
@@ -137,22 +136,17 @@ routers-take n zero ids at bs m l few h =
     let square : length ids * (length ids - 1) ≤ 64 * 63 = mul-le-mul small (let l : length ids - 1 ≤ 63 = omega arith in l) in
     distances-take (pairs (length ids)) ids [] at bs m (omega arith)
 routers-take n (suc left) ids at bs m l few h =
-    record-take m bs routerForm [] (routerValues n ids) at _ _ (omega arith) (λ _. omega arith)
+    record-take m bs forms routerForm [] (routerValues n ids) at (λ v. routers n left (ids ++ (getD v 1 0 ∷ [])) (at + 6)) (omega arith) (λ _. omega arith)
     (λ z.
     let x : ℕ = getD (values routerForm bs) 1 0 in
     let one = length-snoc ids x in
-    routers-take n left (ids ++ (x ∷ [])) (at + 6) (drop 6 bs) (m - 6) (omega arith) few (omega arith)
-    ∙ sym (ap₂ (λ (v l : List ℕ). routers n left (ids ++ (getD v 1 0 ∷ [])) (at + 6) l)
-    (values-take m bs routerForm (omega arith)) (drop-take 6 m bs (omega arith))))
+    routers-take n left (ids ++ (x ∷ [])) (at + 6) (drop 6 bs) (m - 6) (omega arith) few (omega arith))
 
 pub reading-take : (bs : List ℕ) → reading bs ≡ reading (take 53576 bs)
 unfolding reading countRecord
 reading-take bs =
-    let m : ℕ = 53576 in
-    record-take 53576 bs countForm [] countValues 0 _ _ (lit≤ tt) (λ _. lit≤ tt)
+    record-take 53576 bs forms countForm [] countValues 0 (λ v. routers (getD v 0 0) (getD v 0 0) [] 2) (lit≤ tt) (λ _. lit≤ tt)
     (λ z.
     let n : ℕ = getD (values countForm bs) 0 0 in
     let few : n ≤ mostRouters = count-range n (z .good .0) .1 in
-    routers-take n n [] 2 (drop 2 bs) 53574 (omega arith) few (omega arith)
-    ∙ sym (ap₂ (λ (v l : List ℕ). routers (getD v 0 0) (getD v 0 0) [] 2 l)
-    (values-take 53576 bs countForm (lit≤ tt)) (drop-take 2 53576 bs (lit≤ tt))))
+    routers-take n n [] 2 (drop 2 bs) 53574 (omega arith) few (omega arith))

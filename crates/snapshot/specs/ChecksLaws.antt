@@ -15,7 +15,7 @@ use Rattle.snapshot.specs.Ranges.{none, countTests}
 use Rattle.snapshot.specs.RangesLaws.{none-at}
 use Rattle.snapshot.specs.Records.{Form, distanceForm, prefixForm, routeForm, routerForm, written, size, known, kind, values}
 use Rattle.snapshot.specs.Format.{Prefix, Snapshot, Pair, Check, _else_, judged, Holds, latest, Each, GoodRoute, GoodPrefix, routesIn, routesBytes, routersBytes, distancesBytes, prefixesBytes, routeFields, encodeOpen, Valid}
-use Rattle.snapshot.specs.Reading.{Answer, accepted, refused, unless, either, isNil, recordChecks, openRoutes, addRoute, withPrefixes}
+use Rattle.snapshot.specs.Reading.{AnswerOf, accepted, refused, unless, either, isNil, recordChecks, openRoutes, addRoute, withPrefixes}
 
 -- ---- checks
 
@@ -71,14 +71,14 @@ pub record Passed (f : Form) (extra : List Check) (checks : List ℕ → List Ch
   pub whole : T (leb (size f) (length bs))
   pub good : Holds (checks (values f bs))
 
-module _ (f : Form) (extra : List Check) (checks : List ℕ → List Check) (bs : List ℕ) where
-  pub passed : Holds (recordChecks f extra checks bs) → Passed f extra checks bs
+module _ (table : List Form) (f : Form) (extra : List Check) (checks : List ℕ → List Check) (bs : List ℕ) where
+  pub passed : Holds (recordChecks table f extra checks bs) → Passed f extra checks bs
   unfolding recordChecks
   passed h =
       let (free, rest) = holds-append extra ((leb (size f) (length bs) else Cut) ∷ checks (values f bs)) (h .1 .1 .1) in
       record { due = h .1 .1 .0; free = free; whole = rest .0; good = rest .1 }
 
-  pub passing : T (not (isNil bs)) → T (known (kind bs)) → Passed f extra checks bs → Holds (recordChecks f extra checks bs)
+  pub passing : T (not (isNil bs)) → T (known table (kind bs)) → Passed f extra checks bs → Holds (recordChecks table f extra checks bs)
   unfolding recordChecks
   passing one some p =
       (one, (some, (p .due, append-holds extra ((leb (size f) (length bs) else Cut) ∷ checks (values f bs)) (p .free) (p .whole, p .good))))
@@ -98,19 +98,19 @@ routers-few {s} valid = count-range (length (s .ids)) (valid .count) .1
 
 -- ---- answers
 
-pub refused-not-accepted : {r : Refusal} {at : ℕ} {s : Snapshot} → refused r at ≡ accepted s → ⊥
+pub refused-not-accepted : {A : Type 0} {r : Refusal} {at : ℕ} {s : A} → refused r at ≡ accepted s → ⊥
 refused-not-accepted e = let z : _≡_ {A = ℕ} 0 1 = cc in omega arith
 
-pub accepted-injective : {s t : Snapshot} → accepted s ≡ accepted t → s ≡ t
+pub accepted-injective : {A : Type 0} {s t : A} → accepted s ≡ accepted t → s ≡ t
 accepted-injective e = cc
 
-pub unless-accepted : (checks : List Check) (at : ℕ) (go : Unit {0} → Answer) (s : Snapshot) → unless checks at go ≡ accepted s → Holds checks × (go tt ≡ accepted s)
+pub unless-accepted : {A : Type 0} (checks : List Check) (at : ℕ) (go : Unit {0} → AnswerOf A) (s : A) → unless checks at go ≡ accepted s → Holds checks × (go tt ≡ accepted s)
 unfolding judged
 unless-accepted [] at go s e = (tt, e)
 unless-accepted ((true else r) ∷ checks) at go s e = let (h, i) = unless-accepted checks at go s e in ((tt, h), i)
 unless-accepted ((false else r) ∷ checks) at go s e = absurd (refused-not-accepted e)
 
-pub either-cases : {G : Type 0} (b : Bool) (yea nay : Unit {0} → Answer) (a : Answer) → either b yea nay ≡ a
+pub either-cases : {A G : Type 0} (b : Bool) (yea nay : Unit {0} → A) (a : A) → either b yea nay ≡ a
     → (T b → yea tt ≡ a → G) → (T (not b) → nay tt ≡ a → G) → G
 unfolding either
 either-cases true yea nay a e f g = f tt e

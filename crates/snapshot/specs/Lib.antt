@@ -1,6 +1,7 @@
 pub mod Limits
 pub mod Ranges
 pub mod RangesLaws
+pub mod RisesLaws
 pub mod Records
 pub mod RecordsLaws
 pub mod Format

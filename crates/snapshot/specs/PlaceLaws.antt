@@ -12,7 +12,7 @@ use lib.Seq.{drop-drop, drop-cons, getD-drop}
 use lib.Dec.{leb, ltb, eqb}
 use borrow.Author.Tests.{le-leb, lt-leb, lt-ltb, le-ltb}
 use Rattle.refusal.specs.declared.Refusal.the-variants.{Cut, Kind, Place, Tail}
-use Rattle.snapshot.specs.Records.{Form, countForm, routerForm, distanceForm, prefixForm, routeForm, endForm, size, known, kind, values, valuesAt}
+use Rattle.snapshot.specs.Records.{forms, Form, countForm, routerForm, distanceForm, prefixForm, routeForm, endForm, size, known, kind, values, valuesAt}
 use Rattle.snapshot.specs.RecordsLaws.{values-at}
 use Rattle.snapshot.specs.Format.{Snapshot, Pair, pairs, records, Check, _else_}
 use Rattle.snapshot.specs.Reading.{accepted, refused, unless, isNil, recordChecks, withPrefixes, prefixOf, routeOf, addRoute, prefixRecord, routeRecord, endRecord, tail, items, distanceRecord, distances, routerRecord, routers, countRecord, reading}
@@ -42,17 +42,17 @@ module _ (bs : List ℕ) where
       go (no e) = lt-leb (suc k) (length (drop at bs)) (omega (arith, l)) ∙ sym (lt-leb (at + suc k) (length bs) (omega arith))
 
   -- the checks of the record at a place
-  pub record-at : (f : Form) (extra : List Check) (checks : List ℕ → List Check) (at : ℕ)
-      → recordChecks f extra checks (drop at bs)
+  pub record-at : (table : List Form) (f : Form) (extra : List Check) (checks : List ℕ → List Check) (at : ℕ)
+      → recordChecks table f extra checks (drop at bs)
       ≡ (ltb at (length bs) else Cut)
-      ∷ (known (getD bs at 0) else Kind)
+      ∷ (known table (getD bs at 0) else Kind)
       ∷ (eqb (getD bs at 0) (f .kind) else Place)
       ∷ extra
       ++ ((leb (at + size f) (length bs) else Cut)
       ∷ checks (valuesAt f bs at))
   unfolding recordChecks
-  record-at f extra checks at =
-      let front : Bool → ℕ → List Check = λ b k. (b else Cut) ∷ (known k else Kind) ∷ (eqb k (f .kind) else Place) ∷ extra in
+  record-at table f extra checks at =
+      let front : Bool → ℕ → List Check = λ b k. (b else Cut) ∷ (known table k else Kind) ∷ (eqb k (f .kind) else Place) ∷ extra in
       ap₂ (λ (b : Bool) (k : ℕ). front b k ++ ((leb (size f) (length (drop at bs)) else Cut) ∷ checks (values f (drop at bs)))) (more-at at) (kind-at at)
       ∙ ap₂ (λ (b : Bool) (v : List ℕ). front (ltb at (length bs)) (getD bs at 0) ++ ((b else Cut) ∷ checks v)) (enough-at at _) (values-at f bs at)
 
@@ -110,10 +110,10 @@ module _ (bs : List ℕ) where
 
       -- a byte that is not there reads as 0
       pub items-last : getD bs at 0 ≢ 4 → getD bs at 0 ≢ 5
-          → items s at (drop at bs) ≡ unless (endRecord (records s) (drop at bs)) at λ _. tail s (at + size endForm) (drop (at + size endForm) bs)
+          → items s at (drop at bs) ≡ unless (endRecord forms (records s) (drop at bs)) at λ _. tail s (at + size endForm) (drop (at + size endForm) bs)
       items-last no4 no5 =
           items-end s at (drop at bs) (rw kind-at no4) (rw kind-at no5)
-          ∙ ap (λ (l : List ℕ). unless (endRecord (records s) (drop at bs)) at λ _. tail s (at + size endForm) l) (drop-drop (size endForm) at bs)
+          ∙ ap (λ (l : List ℕ). unless (endRecord forms (records s) (drop at bs)) at λ _. tail s (at + size endForm) l) (drop-drop (size endForm) at bs)
 
     pub tail-none : (s : Snapshot) → length bs ≤ at → tail s at (drop at bs) ≡ accepted s
     tail-none s h = ap (tail s at) (drop-of-length-le bs {i = at} h)

@@ -9,36 +9,40 @@ use Rattle.refusal.specs.declared.Refusal.{Refusal}
 use Rattle.refusal.specs.declared.Refusal.the-variants.{Cut, Kind, Place, Full, Tail}
 use Rattle.model.specs.Decision.{Route}
 use Rattle.snapshot.specs.Limits.{mostPrefixes, mostInPrefix, mostRoutes}
-use Rattle.snapshot.specs.Records.{Form, countForm, routerForm, distanceForm, prefixForm, routeForm, endForm, size, known, kind, values}
+use Rattle.snapshot.specs.Records.{Form, countForm, routerForm, distanceForm, prefixForm, routeForm, endForm, forms, size, known, kind, values}
 use Rattle.snapshot.specs.Format.{Prefix, Snapshot, Pair, pairs, routesIn, records, Check, _else_, judged, countChecks, routerChecks, distanceChecks, prefixChecks, routeChecks, endChecks}
 
--- what reading answers: the snapshot, or a refusal and its place
-pub data Answer : Type 0 where
-  accepted : Snapshot → Answer
-  refused : Refusal → ℕ → Answer
+-- what reading answers: what was read, or a refusal and its place
+pub data AnswerOf (A : Type 0) : Type 0 where
+  accepted : A → AnswerOf A
+  refused : Refusal → ℕ → AnswerOf A
+
+-- reading a snapshot
+abbrev pub Answer : Type 0
+Answer = AnswerOf Snapshot
 
 -- no bytes are left
 abbrev pub isNil : List ℕ → Bool
 isNil [] = true
 isNil (b ∷ bs) = false
 
--- the checks of every record, in their order: CUT for the kind byte, KIND, PLACE, FULL, CUT for the body, those of the values.
--- `extra` are those of PLACE and FULL that only some kinds have, `checks` those of the values
-unfoldable pub recordChecks : Form → List Check → (List ℕ → List Check) → List ℕ → List Check
-recordChecks f extra checks bs =
+-- the checks of every record of a file with this table of kinds, in their order: CUT for the kind byte, KIND, PLACE, FULL, CUT for
+-- the body, those of the values. `extra` are those of PLACE and FULL that only some kinds have, `checks` those of the values
+unfoldable pub recordChecks : List Form → Form → List Check → (List ℕ → List Check) → List ℕ → List Check
+recordChecks table f extra checks bs =
     (not (isNil bs) else Cut)
-    ∷ (known (kind bs) else Kind)
+    ∷ (known table (kind bs) else Kind)
     ∷ (eqb (kind bs) (f .kind) else Place)
     ∷ extra
     ++ ((leb (size f) (length bs) else Cut)
     ∷ checks (values f bs))
 
 -- go on, unless a check of the record at a place fails
-abbrev pub unless : List Check → ℕ → (Unit {0} → Answer) → Answer
+abbrev pub unless : {A : Type 0} → List Check → ℕ → (Unit {0} → AnswerOf A) → AnswerOf A
 unless checks at go = judged checks (λ r. refused r at) go
 
 -- one of two ways
-unfoldable pub either : Bool → (Unit {0} → Answer) → (Unit {0} → Answer) → Answer
+unfoldable pub either : {A : Type 0} → Bool → (Unit {0} → A) → (Unit {0} → A) → A
 either true yea nay = yea tt
 either false yea nay = nay tt
 
@@ -92,7 +96,7 @@ prefixValues s v = prefixChecks (s .prefixes) (getD v 0 0) (getD v 1 0)
 
 -- the checks of a prefix record
 unfoldable pub prefixRecord : Snapshot → List ℕ → List Check
-prefixRecord s = recordChecks prefixForm (prefixExtra s) (prefixValues s)
+prefixRecord s = recordChecks forms prefixForm (prefixExtra s) (prefixValues s)
 
 -- PLACE: a route stands behind a prefix. FULL: a prefix's 257th route, or a 1,025th route in all; where there are so many prefixes, routes
 -- of the latest, and routes in all
@@ -113,18 +117,18 @@ routeValues s v = routeChecks (length (s .ids)) (openRoutes (s .prefixes)) (rout
 
 -- the checks of a route record
 unfoldable pub routeRecord : Snapshot → List ℕ → List Check
-routeRecord s = recordChecks routeForm (routeExtra s) (routeValues s)
+routeRecord s = recordChecks forms routeForm (routeExtra s) (routeValues s)
 
 -- the check of the end record's value, with so many records before it
 abbrev pub endValues : ℕ → List ℕ → List Check
 endValues before v = endChecks before (getD v 0 0)
 
 -- the checks of the end record
-unfoldable pub endRecord : ℕ → List ℕ → List Check
-endRecord before = recordChecks endForm [] (endValues before)
+unfoldable pub endRecord : List Form → ℕ → List ℕ → List Check
+endRecord table before = recordChecks table endForm [] (endValues before)
 
 -- after the end record: nothing
-abbrev pub tail : Snapshot → ℕ → List ℕ → Answer
+abbrev pub tail : {A : Type 0} → A → ℕ → List ℕ → AnswerOf A
 tail s at [] = accepted s
 tail s at (b ∷ bs) = refused Tail at
 
@@ -133,7 +137,7 @@ unfoldable pub item : Snapshot → ℕ → List ℕ → (Unit {0} → Answer) �
 item s at bs afterPrefix afterRoute =
     either (eqb (kind bs) (prefixForm .kind)) (λ _. unless (prefixRecord s bs) at afterPrefix) λ _.
     either (eqb (kind bs) (routeForm .kind)) (λ _. unless (routeRecord s bs) at afterRoute) λ _.
-    unless (endRecord (records s) bs) at λ _. tail s (at + size endForm) (drop (size endForm) bs)
+    unless (endRecord forms (records s) bs) at λ _. tail s (at + size endForm) (drop (size endForm) bs)
 
 -- what was read so far, with the prefix of the record at the front
 abbrev pub withPrefix : Snapshot → List ℕ → Snapshot
@@ -163,7 +167,7 @@ distanceValues n due v = distanceChecks n due (getD v 0 0) (getD v 1 0) (getD v 
 
 -- the checks of a distance record
 unfoldable pub distanceRecord : ℕ → Pair → List ℕ → List Check
-distanceRecord n due = recordChecks distanceForm [] (distanceValues n due)
+distanceRecord n due = recordChecks forms distanceForm [] (distanceValues n due)
 
 -- the distances from a place on, and then the items
 unfoldable pub distances : List Pair → List ℕ → List ℕ → ℕ → List ℕ → Answer
@@ -180,7 +184,7 @@ routerValues n ids v = routerChecks n ids (getD v 0 0) (getD v 1 0)
 
 -- the checks of a router record
 unfoldable pub routerRecord : ℕ → List ℕ → List ℕ → List Check
-routerRecord n ids = recordChecks routerForm [] (routerValues n ids)
+routerRecord n ids = recordChecks forms routerForm [] (routerValues n ids)
 
 -- the routers from a place on, and then the distances
 unfoldable pub routers : ℕ → ℕ → List ℕ → ℕ → List ℕ → Answer
@@ -197,7 +201,7 @@ countValues v = countChecks (getD v 0 0)
 
 -- the checks of the count record
 unfoldable pub countRecord : List ℕ → List Check
-countRecord = recordChecks countForm [] countValues
+countRecord = recordChecks forms countForm [] countValues
 
 -- one kind 1; n of kind 2; n(n-1) of kind 3; any number of prefixes with their routes; one kind 6; then nothing
 unfoldable pub reading : List ℕ → Answer

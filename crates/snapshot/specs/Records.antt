@@ -44,9 +44,9 @@ abbrev pub ofKind : {A : Type 0} → List Form → ℕ → (Form → A) → A �
 ofKind [] k its otherwise = otherwise
 ofKind (f ∷ fs) k its otherwise = cond (eqb k (f .kind)) (its f) (ofKind fs k its otherwise)
 
--- whether a form has the kind
-abbrev pub known : ℕ → Bool
-known k = ofKind forms k (λ f. true) false
+-- whether a form of a table has the kind
+abbrev pub known : List Form → ℕ → Bool
+known table k = ofKind table k (λ f. true) false
 
 -- the sum of a list
 abbrev pub sum : List ℕ → ℕ

@@ -9,7 +9,7 @@ use mathlib.Core.List.{List, [], _∷_}
 use lib.ListN.{length, drop, length-drop}
 use lib.Dec.{T, eqb}
 use mir.Facts.{no-eqb}
-use Rattle.snapshot.specs.Records.{kind}
+use Rattle.snapshot.specs.Records.{forms, kind}
 use Rattle.snapshot.specs.Format.{Snapshot, judged, records}
 use Rattle.snapshot.specs.Reading.{Answer, recordChecks, unless, either, withPrefix, withRoute, prefixRecord, routeRecord, endRecord, tail, item, itemsWithin, items}
 
@@ -61,6 +61,6 @@ module _ (s : Snapshot) (at : ℕ) (bs : List ℕ) where
   unfolding item
   items-route k = items-step s at bs ∙ either-no (eqb (kind bs) 4) _ _ (rw k tt) ∙ either-yes (eqb (kind bs) 5) _ _ (rw k tt)
 
-  pub items-end : kind bs ≢ 4 → kind bs ≢ 5 → items s at bs ≡ unless (endRecord (records s) bs) at (λ _. tail s (at + 5) (drop 5 bs))
+  pub items-end : kind bs ≢ 4 → kind bs ≢ 5 → items s at bs ≡ unless (endRecord forms (records s) bs) at (λ _. tail s (at + 5) (drop 5 bs))
   unfolding item
   items-end k l = items-step s at bs ∙ either-no (eqb (kind bs) 4) _ _ (no-eqb k) ∙ either-no (eqb (kind bs) 5) _ _ (no-eqb l)

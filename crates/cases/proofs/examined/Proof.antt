@@ -3,7 +3,7 @@ use denote.Ref.{now}
 use lib.ListN.{length}
 use lib.Dec.{T}
 use lib.Pow.{areBytes}
-use Rattle.reader.specs.ReadLaws.{slice-bytes}
+use Rattle.wire.specs.NumbersLaws.{slice-bytes}
 use Rattle.cases.specs.CasesLaws.{kept, found-is}
 use borrow.Author.Needs.{needs}
 use Rattle.cases.proofs.examined.Statement.{statement}

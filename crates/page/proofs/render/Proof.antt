@@ -3,7 +3,7 @@ use denote.Ref.{now}
 use lib.Dec.{T}
 use lib.Pow.{areBytes}
 use borrow.Author.Needs.{needs}
-use Rattle.reader.specs.ReadLaws.{slice-bytes}
+use Rattle.wire.specs.NumbersLaws.{slice-bytes}
 use Rattle.page.specs.Page.{room}
 use Rattle.page.specs.RenderLaws.{ready, page-is, rendered-text}
 use Rattle.page.proofs.render.Statement.{statement}

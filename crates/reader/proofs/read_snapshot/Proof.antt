@@ -5,12 +5,13 @@ use mathlib.Core.Path.{_≡_, sym, _∙_}
 use mathlib.Core.Bool.{false}
 use lib.Dec.{T}
 use lib.Pow.{areBytes}
+use Rattle.wire.specs.NumbersLaws.{slice-bytes}
 use Rattle.snapshot.specs.Ranges.{anyOf}
 use Rattle.snapshot.specs.RangesLaws.{none-any}
 use Rattle.snapshot.specs.TablesLaws.{has-room}
 use Rattle.snapshot.specs.Tables.{Tables, columns, tables, short}
 use Rattle.scan.specs.ScanLaws.{said-is}
-use Rattle.reader.specs.ReadLaws.{no-room, not-sound, sound, spanned, slice-bytes}
+use Rattle.reader.specs.ReadLaws.{no-room, not-sound, sound, spanned}
 use Rattle.reader.proofs.read_snapshot.Statement.{statement}
 use Rattle.reader.proofs.read_snapshot.Tie as tie
 

@@ -16,7 +16,7 @@ use lib.Dec.{eqb, leb}
 use Rattle.snapshot.specs.declared.Route.{Route}
 use Rattle.snapshot.specs.Plain.{routeIs}
 use Rattle.snapshot.specs.Limits.{mostInPrefix, mostRoutes}
-use Rattle.snapshot.specs.Records.{routeForm, valuesAt}
+use Rattle.snapshot.specs.Records.{forms, routeForm, valuesAt}
 use Rattle.snapshot.specs.Reading.{routeOf, routeRoom}
 use Rattle.cursor.specs.Steps.{finding, bodyLength, openingChecks, after, routeFaults, routeNext, took, routeSaid}
 use Rattle.cursor.specs.StepsLaws.{route-room}
@@ -26,11 +26,11 @@ use Rattle.cursor.proofs.Cursor.route.Tie as tie
 abbrev start : tie.After-enum-told → tie.Start
 start c = search needs
 
-clear : (c : tie.After-enum-told) → let s = start c in Clear ≡ finding (openingChecks (now (s .args .input)) (s .args .self .at) 5 (eqb (s .args .k .prefixes) 0) (leb mostInPrefix (s .args .k .inside) || leb mostRoutes (s .args .k .routes)))
+clear : (c : tie.After-enum-told) → let s = start c in Clear ≡ finding (openingChecks forms (now (s .args .input)) (s .args .self .at) 5 (eqb (s .args .k .prefixes) 0) (leb mostInPrefix (s .args .k .inside) || leb mostRoutes (s .args .k .routes)))
 clear c = let o : tie.After-opening = search needs in sym (c .enum-told .given .1) ∙ o .opening .ensures
 
-whole : (c : tie.After-enum-told) → let s = start c in s .args .self .at + bodyLength 5 < length (now (s .args .input))
-whole c = let s = start c in opened (now (s .args .input)) (s .args .self .at) 5 (eqb (s .args .k .prefixes) 0) (leb mostInPrefix (s .args .k .inside) || leb mostRoutes (s .args .k .routes)) (clear c)
+whole : (c : tie.After-enum-told) → let s = start c in s .args .self .at + bodyLength forms 5 < length (now (s .args .input))
+whole c = let s = start c in opened forms (now (s .args .input)) (s .args .self .at) 5 (eqb (s .args .k .prefixes) 0) (leb mostInPrefix (s .args .k .inside) || leb mostRoutes (s .args .k .routes)) (clear c)
 
 pub route-spec : {M : Type 1} → statement M
 unfolding routeNext
@@ -51,7 +51,7 @@ route-spec =
     let bs = now (s .args .input) in
     let at = s .args .self .at in
     let k = s .args .k in
-    at-opening bs at routeForm (routeRoom (k .prefixes) (k .inside) (k .routes)) (eqb (k .prefixes) 0) (leb mostInPrefix (k .inside) || leb mostRoutes (k .routes)) (λ v. routeFaults k (routeOf v)) (λ f. refuses f at) (λ _. took (after (s .args .self) routeForm) (valuesAt routeForm bs at)) refl (route-room k _) (sym (c .before .f .given .1) ∙ o .opening .ensures))
+    at-opening forms bs at routeForm (routeRoom (k .prefixes) (k .inside) (k .routes)) (eqb (k .prefixes) 0) (leb mostInPrefix (k .inside) || leb mostRoutes (k .routes)) (λ v. routeFaults k (routeOf v)) (λ f. refuses f at) (λ _. took (after (s .args .self) routeForm) (valuesAt routeForm bs at)) refl (route-room k _) (sym (c .before .f .given .1) ∙ o .opening .ensures))
     (λ c.
     let s : tie.Start = search needs in
     let o : tie.After-opening = search needs in
@@ -60,7 +60,7 @@ route-spec =
     let v : tie.After-route-faults = search needs in
     let g : tie.After-route-at = search needs in
     let k = s .args .k in
-    at-values bs at routeForm (routeRoom (k .prefixes) (k .inside) (k .routes)) (eqb (k .prefixes) 0) (leb mostInPrefix (k .inside) || leb mostRoutes (k .routes)) (λ v. routeFaults k (routeOf v)) (λ f. refuses f at) (λ _. took (after (s .args .self) routeForm) (valuesAt routeForm bs at)) refl (route-room k _) (clear (search needs)) (sym (c .before .f2 .given .1) ∙ v .route-faults .ensures ∙ ap (λ (r : Route). finding (routeFaults k (routeIs r))) (g .route-at .ensures)))
+    at-values forms bs at routeForm (routeRoom (k .prefixes) (k .inside) (k .routes)) (eqb (k .prefixes) 0) (leb mostInPrefix (k .inside) || leb mostRoutes (k .routes)) (λ v. routeFaults k (routeOf v)) (λ f. refuses f at) (λ _. took (after (s .args .self) routeForm) (valuesAt routeForm bs at)) refl (route-room k _) (clear (search needs)) (sym (c .before .f2 .given .1) ∙ v .route-faults .ensures ∙ ap (λ (r : Route). finding (routeFaults k (routeIs r))) (g .route-at .ensures)))
     (λ c.
     let s : tie.Start = search needs in
     let o : tie.After-opening = search needs in
@@ -70,4 +70,4 @@ route-spec =
     let g : tie.After-route-at = search needs in
     let e : tie.After-enum-told2 = search needs in
     let k = s .args .k in
-    ap₂ (λ (c : Cursor) (r : Route). routeSaid (Took c r)) (c .past .ensures) (g .route-at .ensures) ∙ at-end bs at routeForm (routeRoom (k .prefixes) (k .inside) (k .routes)) (eqb (k .prefixes) 0) (leb mostInPrefix (k .inside) || leb mostRoutes (k .routes)) (λ v. routeFaults k (routeOf v)) (λ f. refuses f at) (λ _. took (after (s .args .self) routeForm) (valuesAt routeForm bs at)) refl (route-room k _) (clear (search needs)) (sym (e .enum-told2 .given .1) ∙ v .route-faults .ensures ∙ ap (λ (r : Route). finding (routeFaults k (routeIs r))) (g .route-at .ensures))))
+    ap₂ (λ (c : Cursor) (r : Route). routeSaid (Took c r)) (c .past .ensures) (g .route-at .ensures) ∙ at-end forms bs at routeForm (routeRoom (k .prefixes) (k .inside) (k .routes)) (eqb (k .prefixes) 0) (leb mostInPrefix (k .inside) || leb mostRoutes (k .routes)) (λ v. routeFaults k (routeOf v)) (λ f. refuses f at) (λ _. took (after (s .args .self) routeForm) (valuesAt routeForm bs at)) refl (route-room k _) (clear (search needs)) (sym (e .enum-told2 .given .1) ∙ v .route-faults .ensures ∙ ap (λ (r : Route). finding (routeFaults k (routeIs r))) (g .route-at .ensures))))

@@ -14,7 +14,7 @@ use Rattle.cursor.specs.StepsLaws.{opened, at-opening, at-values, at-end
 use mathlib.Core.Path.{ap₂}
 use mathlib.Core.List.{[], _∷_}
 use lib.ListN.{take}
-use Rattle.snapshot.specs.Records.{routerForm, valuesAt}
+use Rattle.snapshot.specs.Records.{forms, routerForm, valuesAt}
 use Rattle.snapshot.specs.Format.{routerChecks}
 use Rattle.snapshot.specs.Reading.{routerValues, routerRecord}
 use Rattle.cursor.specs.Steps.{finding, bodyLength, openingChecks, after, took, stepSaid}
@@ -24,11 +24,11 @@ use Rattle.cursor.proofs.Cursor.router.Tie as tie
 abbrev start : tie.After-enum-told → tie.Start
 start c = search needs
 
-clear : (c : tie.After-enum-told) → let s = start c in Clear ≡ finding (openingChecks (now (s .args .input)) (s .args .self .at) 2 (false) (false))
+clear : (c : tie.After-enum-told) → let s = start c in Clear ≡ finding (openingChecks forms (now (s .args .input)) (s .args .self .at) 2 (false) (false))
 clear c = let o : tie.After-opening = search needs in sym (c .enum-told .given .1) ∙ o .opening .ensures
 
-whole : (c : tie.After-enum-told) → let s = start c in s .args .self .at + bodyLength 2 < length (now (s .args .input))
-whole c = let s = start c in opened (now (s .args .input)) (s .args .self .at) 2 (false) (false) (clear c)
+whole : (c : tie.After-enum-told) → let s = start c in s .args .self .at + bodyLength forms 2 < length (now (s .args .input))
+whole c = let s = start c in opened forms (now (s .args .input)) (s .args .self .at) 2 (false) (false) (clear c)
 
 pub router-spec : {M : Type 1} → statement M
 unfolding routerRecord
@@ -51,7 +51,7 @@ router-spec =
     let o : tie.After-opening = search needs in
     let bs = now (s .args .input) in
     let at = s .args .self .at in
-    at-opening bs at routerForm ([]) (false) (false) (routerValues (s .args .routers) (take (s .args .given) (now (s .args .ids)))) (λ f. refuses f at) (λ _. took (after (s .args .self) routerForm) (getD (valuesAt routerForm bs at) 1 0 ∷ [])) refl (no-extra _) (sym (c .before .f .given .1) ∙ o .opening .ensures))
+    at-opening forms bs at routerForm ([]) (false) (false) (routerValues (s .args .routers) (take (s .args .given) (now (s .args .ids)))) (λ f. refuses f at) (λ _. took (after (s .args .self) routerForm) (getD (valuesAt routerForm bs at) 1 0 ∷ [])) refl (no-extra _) (sym (c .before .f .given .1) ∙ o .opening .ensures))
     (λ c.
     let s : tie.Start = search needs in
     let o : tie.After-opening = search needs in
@@ -60,7 +60,7 @@ router-spec =
     let v : tie.After-router-faults = search needs in
     let g : tie.After-get32 = search needs in
     let h : tie.After-get8 = search needs in
-    at-values bs at routerForm ([]) (false) (false) (routerValues (s .args .routers) (take (s .args .given) (now (s .args .ids)))) (λ f. refuses f at) (λ _. took (after (s .args .self) routerForm) (getD (valuesAt routerForm bs at) 1 0 ∷ [])) refl (no-extra _) (clear (search needs)) (sym (c .before .f2 .given .1) ∙ v .router-faults .ensures ∙ ap₂ (λ (i id : ℕ). finding (routerChecks (s .args .routers) (take (s .args .given) (now (s .args .ids))) i id)) (h .get8 .ensures) (g .get32 .ensures)))
+    at-values forms bs at routerForm ([]) (false) (false) (routerValues (s .args .routers) (take (s .args .given) (now (s .args .ids)))) (λ f. refuses f at) (λ _. took (after (s .args .self) routerForm) (getD (valuesAt routerForm bs at) 1 0 ∷ [])) refl (no-extra _) (clear (search needs)) (sym (c .before .f2 .given .1) ∙ v .router-faults .ensures ∙ ap₂ (λ (i id : ℕ). finding (routerChecks (s .args .routers) (take (s .args .given) (now (s .args .ids))) i id)) (h .get8 .ensures) (g .get32 .ensures)))
     (λ c.
     let s : tie.Start = search needs in
     let o : tie.After-opening = search needs in
@@ -70,4 +70,4 @@ router-spec =
     let g : tie.After-get32 = search needs in
     let h : tie.After-get8 = search needs in
     let e : tie.After-enum-told2 = search needs in
-    ap₂ (λ (c : Cursor) (n : ℕ). stepSaid (Took c n)) (c .past .ensures) (g .get32 .ensures) ∙ at-end bs at routerForm ([]) (false) (false) (routerValues (s .args .routers) (take (s .args .given) (now (s .args .ids)))) (λ f. refuses f at) (λ _. took (after (s .args .self) routerForm) (getD (valuesAt routerForm bs at) 1 0 ∷ [])) refl (no-extra _) (clear (search needs)) (sym (e .enum-told2 .given .1) ∙ v .router-faults .ensures ∙ ap₂ (λ (i id : ℕ). finding (routerChecks (s .args .routers) (take (s .args .given) (now (s .args .ids))) i id)) (h .get8 .ensures) (g .get32 .ensures))))
+    ap₂ (λ (c : Cursor) (n : ℕ). stepSaid (Took c n)) (c .past .ensures) (g .get32 .ensures) ∙ at-end forms bs at routerForm ([]) (false) (false) (routerValues (s .args .routers) (take (s .args .given) (now (s .args .ids)))) (λ f. refuses f at) (λ _. took (after (s .args .self) routerForm) (getD (valuesAt routerForm bs at) 1 0 ∷ [])) refl (no-extra _) (clear (search needs)) (sym (e .enum-told2 .given .1) ∙ v .router-faults .ensures ∙ ap₂ (λ (i id : ℕ). finding (routerChecks (s .args .routers) (take (s .args .given) (now (s .args .ids))) i id)) (h .get8 .ensures) (g .get32 .ensures))))
