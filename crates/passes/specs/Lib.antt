@@ -1,0 +1,4 @@
+pub mod Passes
+pub mod PassesLaws
+pub mod RewrittenLaws
+pub mod TurnLaws

@@ -1,0 +1,3 @@
+pub mod Sessions
+pub mod SessionsLaws
+pub mod Theorems
