@@ -1,4 +1,4 @@
--- What is proved of the promise of the host call, each theorem under the sentence of document 01 that it makes true.
+-- What is proved of the promises of the host calls, each theorem under the sentence of document 01 that it makes true.
 use Prim.Native.Nat.{ℕ, _≤_, _<_}
 use native.Mathlib.Omega.{arith}
 use mathlib.Core.Path.{_≡_, refl, sym, ap, ap₂, _∙_, subst}
@@ -18,6 +18,7 @@ use Rattle.snapshot.specs.Theorems.{accepts}
 use Rattle.snapshot.specs.Tables.{mesh}
 use Rattle.tables.specs.Theorems.{sound}
 use Rattle.reader.specs.TakenLaws.{one-refused}
+use Rattle.revise.specs.Revising.{revisedAnswer, revisedOut}
 use Rattle.host.specs.Host.{areaBytes, refusalCode, rowsBytes, Answers, room, unread, noPrefix, given}
 
 -- no bytes are both accepted and refused
@@ -74,3 +75,9 @@ module _ (bs : List ℕ) (bytes : T (areBytes bs)) {p : ℕ} {area : List ℕ} w
   answers-settled (noPrefix h u f o) k s e m = absurd (let same = ap (λ (z : Snapshot). length (z .prefixes)) (one-snapshot e f) in omega arith)
   answers-settled (given h u f o x y b) k s e m =
       subst (λ (z : Snapshot). (length (differing (mesh u p) x y) ≡ 0) ↔ Only (mesh z p)) (one-snapshot e f) (settled-only (mesh u p) (sound (valid-read bs bytes f) p o) x y b)
+
+-- The policy's call is determined too: number and output.
+pub policy-one : (snapshot policy out : List ℕ) {r q : ℕ} {a b : List ℕ}
+    → (r ≡ revisedAnswer snapshot policy out .number) × (a ≡ revisedOut snapshot policy out)
+    → (q ≡ revisedAnswer snapshot policy out .number) × (b ≡ revisedOut snapshot policy out) → Same r q a b
+policy-one snapshot policy out x y = record { number = x .0 ∙ sym (y .0); area = x .1 ∙ sym (y .1) }

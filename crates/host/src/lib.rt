@@ -1,4 +1,5 @@
-// The forecast of one prefix for C programs: snapshot bytes, a prefix number and an answer area.
+// The calls for C programs: the forecast of one prefix, from snapshot bytes, a prefix number and an answer area; and what a policy makes
+// of a snapshot, from bytes to bytes.
 ghost use mathlib.Core.Path.{_≡_};
 ghost use mathlib.Core.List.{_++_};
 ghost use Prim.Native.Nat.{_+_, _*_, _≤_};
@@ -10,7 +11,9 @@ ghost use Rattle.wire.specs.Numbers.{bytesOf};
 ghost use Rattle.text.specs.Text.{each, Puts};
 ghost use Rattle.load.specs.Load.{Asked};
 ghost use Rattle.host.specs.Host.{areaBytes, refusalCode, routerBytes, Answers};
+ghost use Rattle.revise.specs.Revising.{said, revisedAnswer, revisedOut};
 use refusal::Refusal;
+use revise::Revised;
 use scan::Read;
 
 // The least length of an answer area: four bytes for each of the most routers.
@@ -98,4 +101,23 @@ pub extern "C" fn barrierose_forecast(snapshot: &[u8], prefix: u32, area: &mut [
             answer(snapshot, counts.routers as usize, prefix as usize, area)
         }
     }
+}
+
+// What an answer to a policy returns.
+fn revised(answer: Revised) -> u32
+    ensures { λ x. ⌜ x ≡ said answer .number ⌝ }
+{
+    match answer {
+        Revised::Rewritten => 0,
+        Revised::SnapshotRefused(r, _) => 100 + refusal::number(r),
+        Revised::PolicyRefused(r, _) => 200 + refusal::number(r),
+    }
+}
+
+// The policy's call: the rewritten snapshot stands in the first bytes of `out`. Checks: ROOM, the snapshot, the policy.
+#[no_mangle]
+pub extern "C" fn barrierose_policy(snapshot: &[u8], policy: &[u8], out: &mut [u8]) -> u32
+    ensures { λ r. ⌜ (r ≡ revisedAnswer (was snapshot) (was policy) (was out) .number) × (is out ≡ revisedOut (was snapshot) (was policy) (was out)) ⌝ }
+{
+    revised(revise::revise(snapshot, policy, out))
 }

@@ -14,9 +14,13 @@ widest = 80
 abbrev pub headingLine : ℕ → ℕ → List ℕ
 headingLine routers prefixes = (ascii "forecast " ++ decimal routers) ++ (ascii " " ++ decimal prefixes) ++ ascii "\n"
 
+-- a word with the number and place of a refusal
+abbrev pub refusalLine : List ℕ → ℕ → ℕ → List ℕ
+refusalLine word number place = (word ++ decimal number) ++ (ascii " " ++ decimal place) ++ ascii "\n"
+
 -- a refusal prints `refused` with number and place
 abbrev pub refusedLine : ℕ → ℕ → List ℕ
-refusedLine number place = (ascii "refused " ++ decimal number) ++ (ascii " " ++ decimal place) ++ ascii "\n"
+refusedLine = refusalLine (ascii "refused ")
 
 -- an address, byte by byte
 abbrev pub dotted : ℕ → List ℕ

@@ -9,7 +9,7 @@ ghost use lib.ListN.{length};
 ghost use Rattle.model.specs.Decision.{none};
 ghost use Rattle.model.specs.Lent.{was, is, col};
 ghost use Rattle.text.specs.Text.{decimal, Puts};
-ghost use Rattle.lines.specs.Lines.{widest, headingLine, refusedLine, dotted, state, prefixLine, entry, orEntry, routerLine};
+ghost use Rattle.lines.specs.Lines.{widest, headingLine, refusalLine, refusedLine, dotted, state, prefixLine, entry, orEntry, routerLine};
 
 // No row: what a router holds that has nothing to hold.
 const NONE: u16 = 65535;
@@ -33,15 +33,23 @@ pub fn put_heading(out: &mut [u8], at: usize, routers: u32, prefixes: u32) -> us
     put_text(out, second, b"\n")
 }
 
-// Puts the line of a refusal.
+// Puts the line of a refusal behind a word that says so.
+pub fn put_refusal(out: &mut [u8], at: usize, word: &[u8], number: u32, place: usize) -> usize
+    requires { ⌜ at + length (now word) + 32 ≤ length (now out) ⌝ }
+    ensures { λ end. ⌜ Puts (was out) (is out) at end (refusalLine (was word) number place) × (end ≤ at + length (was word) + 32) ⌝ }
+{
+    let first = put_number(out, at, word, number);
+    let space = put_text(out, first, b" ");
+    let second = put_decimal(out, space, place as u64);
+    put_text(out, second, b"\n")
+}
+
+// Puts the line of a refused snapshot.
 pub fn put_refused(out: &mut [u8], at: usize, number: u32, place: usize) -> usize
     requires { ⌜ at + widest ≤ length (now out) ⌝ }
     ensures { λ end. ⌜ Puts (was out) (is out) at end (refusedLine number place) × (end ≤ at + widest) ⌝ }
 {
-    let first = put_number(out, at, b"refused ", number);
-    let space = put_text(out, first, b" ");
-    let second = put_decimal(out, space, place as u64);
-    put_text(out, second, b"\n")
+    put_refusal(out, at, b"refused ", number, place)
 }
 
 // Puts an address.

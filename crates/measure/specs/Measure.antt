@@ -11,6 +11,7 @@ use Rattle.snapshot.specs.Tables.{Tables}
 use Rattle.reader.specs.Read.{readAnswer, readTables}
 use Rattle.writer.specs.Writing as writing
 use Rattle.outlook.specs.Outlook as forecasting
+use Rattle.apply.specs.Applying as applying
 
 -- what reading answers, its number alone, and leaves
 pub record Reads (bs : List ℕ) (before after : Tables) (r : ℕ) : Type 0 where
@@ -44,3 +45,9 @@ pub record Forecasts (routers prefixes routes : ℕ) (t : Tables) (p : ℕ) (ear
   pub said : Said
   pub forecasts : forecasting.Forecasts (counted routers prefixes routes) t p early₀ late₀ said early₁ late₁
   pub number : r ≡ outlookNumber said
+
+-- what a policy's call answers, its number alone, and leaves
+pub record Policies (routers prefixes routes : ℕ) (before : Tables) (policy : List ℕ) (after : Tables) (r : ℕ) : Type 0 where
+  pub said : Said
+  pub applies : applying.Applies (counted routers prefixes routes) before policy said after
+  pub number : r ≡ said .number

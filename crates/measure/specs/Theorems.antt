@@ -3,11 +3,13 @@
 use Prim.Native.Nat.{ℕ}
 use mathlib.Core.Path.{_≡_, sym, ap, _∙_}
 use mathlib.Core.List.{List}
+use Rattle.refusal.specs.Numbers.{Said}
 use Rattle.snapshot.specs.Tables.{Tables}
 use Rattle.writer.specs.AnswerLaws as writing
 use Rattle.outlook.specs.AnswerLaws as forecasting
+use Rattle.apply.specs.Theorems as applying
 use Rattle.outlook.specs.AnswerLaws.{Same}
-use Rattle.measure.specs.Measure.{Reads, Writes, Forecasts, writeNumber, outlookNumber}
+use Rattle.measure.specs.Measure.{Reads, Writes, Forecasts, Policies, writeNumber, outlookNumber}
 
 pub reads-one : {bs : List ℕ} {before u v : Tables} {r q : ℕ} → Reads bs before u r → Reads bs before v q → (r ≡ q) × (u ≡ v)
 reads-one a b = (a .number ∙ sym (b .number), a .tables ∙ sym (b .tables))
@@ -24,3 +26,9 @@ module _ {routers prefixes routes : ℕ} {t : Tables} where
   forecasts-one a b =
       let same = forecasting.same-said (a .forecasts) (b .forecasts) in
       record { answer = a .number ∙ ap outlookNumber (same .answer) ∙ sym (b .number); earlies = same .earlies; lates = same .lates }
+
+  pub policies-one : {policy : List ℕ} {u v : Tables} {r q : ℕ}
+      → Policies routers prefixes routes t policy u r → Policies routers prefixes routes t policy v q → (r ≡ q) × (u ≡ v)
+  policies-one a b =
+      let (e, f) = applying.same (a .applies) (b .applies) in
+      (a .number ∙ ap (λ (s : Said). s .number) e ∙ sym (b .number), f)

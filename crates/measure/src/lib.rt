@@ -1,4 +1,5 @@
 // The library's calls as the benchmarks make them: with numbers in place of enums, so that a C caller can take them.
+use apply::Applied;
 use outlook::Outlook;
 use scan::Read;
 use snapshot::Counts;
@@ -9,7 +10,8 @@ ghost use Rattle.snapshot.specs.Tables.{tables, columns};
 ghost use Rattle.scan.specs.Scan.{said as readSaid};
 ghost use Rattle.writer.specs.Writing.{said as writeSaid};
 ghost use Rattle.outlook.specs.Outlook.{said as outlookSaid};
-ghost use Rattle.measure.specs.Measure.{writeNumber, outlookNumber, Reads, Writes, Forecasts};
+ghost use Rattle.apply.specs.Applying.{said as applySaid};
+ghost use Rattle.measure.specs.Measure.{writeNumber, outlookNumber, Reads, Writes, Forecasts, Policies};
 
 // What reading answers, as a number.
 fn read_number(read: Read) -> u32
@@ -184,4 +186,64 @@ pub extern "C" fn measure_forecast(
         late,
     );
     outlook_number(outlook)
+}
+
+// What a policy's call answers, as a number.
+fn applied_number(applied: Applied) -> u32
+    ensures { λ r. ⌜ r ≡ applySaid applied .number ⌝ }
+{
+    match applied {
+        Applied::Rewritten => 0,
+        Applied::Refused(r, _) => refusal::number(r),
+    }
+}
+
+// Rewrites the routes in tables by a policy: 0, or the number of the refusal.
+#[no_mangle]
+pub extern "C" fn measure_policy(
+    policy: &[u8],
+    routers: u32,
+    prefixes: u32,
+    of_routes: u32,
+    ids: &[u32],
+    distances: &[u32],
+    address: &[u32],
+    bits: &[u32],
+    routes: &[u32],
+    router: &[u32],
+    asn: &[u32],
+    preference: &mut [u32],
+    path: &[u32],
+    origin: &[u32],
+    mark: &mut [u32],
+    med: &mut [u32],
+    nid: &[u32],
+    peer: &[u32],
+) -> u32
+    ensures { λ r. ⌜ Policies routers prefixes «of_routes» (tables (was ids) (was distances) (was address) (was bits) (was routes) (columns (was router) (was asn) (was preference) (was path) (was origin) (was mark) (was med) (was nid) (was peer))) (was policy) (tables (was ids) (was distances) (was address) (was bits) (was routes) (columns (was router) (was asn) (is preference) (was path) (was origin) (is mark) (is med) (was nid) (was peer))) r ⌝ }
+{
+    let counts = Counts {
+        routers: routers,
+        prefixes: prefixes,
+        routes: of_routes,
+    };
+    let applied = apply::apply_policy(
+        policy,
+        counts,
+        ids,
+        distances,
+        address,
+        bits,
+        routes,
+        router,
+        asn,
+        preference,
+        path,
+        origin,
+        mark,
+        med,
+        nid,
+        peer,
+    );
+    applied_number(applied)
 }

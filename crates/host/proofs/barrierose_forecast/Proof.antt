@@ -5,7 +5,7 @@ use lib.Dec.{T}
 use lib.Pow.{areBytes}
 use borrow.Author.Needs.{needs}
 use Rattle.scan.specs.ScanLaws.{said-is}
-use Rattle.reader.specs.ReadLaws.{slice-bytes}
+use Rattle.wire.specs.NumbersLaws.{slice-bytes}
 use Rattle.host.specs.Host.{room}
 use Rattle.host.specs.HostLaws.{answers-as, answers-refused, answers-none, asked}
 use Rattle.host.proofs.barrierose_forecast.Statement.{statement}

@@ -1,0 +1,3 @@
+pub mod Revising
+pub mod ReviseLaws
+pub mod Theorems
