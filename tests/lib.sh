@@ -92,9 +92,9 @@ runnable() {
     echo "$script"
 }
 
-# program: prints the name of a file that runs the program forecast, which rt makes unless it is there already.
+# program NAME: prints the name of a file that runs a proved program, which rt makes unless it is there already.
 program() {
-    fresh target/bin/forecast rt check forecast >&2 && runnable target/bin/forecast
+    fresh "target/bin/$1" rt check "$1" >&2 && runnable "target/bin/$1"
 }
 
 # link_calls: says which libraries with the proved calls the cargo workspace links, where the caller has not said so.

@@ -1,25 +1,36 @@
-//! Damaged copies of a snapshot, the same for the same seed: some damages hit single bytes, some whole records,
-//! and some mend the end record's number afterwards, so that the later checks get work too.
+//! Damaged copies of a snapshot or a policy, the same for the same seed: some damages hit single bytes, some whole
+//! records, and some mend the end record's number afterwards, so that the later checks get work too.
 
-use crate::record::{cut, encode, Record};
+use crate::policy;
+use crate::record::{body_length, cut_by, encode, Bodies, Record};
 use crate::seed::Seeded;
 
 /// Values at which a check may turn, as the last bytes of a field.
 const BOUNDARIES: [u32; 16] =
     [0, 1, 2, 3, 32, 33, 63, 64, 65, 255, 65_534, 65_535, 16_777_215, 16_777_216, u32::MAX - 1, u32::MAX];
 
+/// A damaged copy of a snapshot.
 pub fn damage(bytes: &[u8], seed: u64) -> Vec<u8> {
+    damaged(bytes, seed, body_length)
+}
+
+/// A damaged copy of a policy; kinds and end record are laid out as in a snapshot.
+pub fn damage_policy(bytes: &[u8], seed: u64) -> Vec<u8> {
+    damaged(bytes, seed, policy::record::body_length)
+}
+
+fn damaged(bytes: &[u8], seed: u64, bodies: Bodies) -> Vec<u8> {
     let mut seeded = Seeded::new(seed);
     let mut damaged = bytes.to_vec();
     for _ in 0..seeded.pick(&[1, 1, 1, 2, 3]) {
-        damaged = damaged_once(&damaged, &mut seeded);
+        damaged = damaged_once(&damaged, &mut seeded, bodies);
     }
     damaged
 }
 
-fn damaged_once(bytes: &[u8], seeded: &mut Seeded) -> Vec<u8> {
+fn damaged_once(bytes: &[u8], seeded: &mut Seeded, bodies: Bodies) -> Vec<u8> {
     let in_records = seeded.below(5) < 3;
-    let records: Vec<Vec<u8>> = cut(bytes).into_iter().map(<[u8]>::to_vec).collect();
+    let records: Vec<Vec<u8>> = cut_by(bytes, bodies).into_iter().map(<[u8]>::to_vec).collect();
     if !in_records || records.len() < 2 {
         return damaged_bytes(bytes.to_vec(), seeded);
     }

@@ -1,6 +1,7 @@
-//! What the C host call must return, and what it must leave in the area it is lent.
+//! What the C host calls must return, and what they must leave in what they are lent.
 
 use crate::forecast::forecast;
+use crate::policy::apply::{rewritten, Refused};
 use crate::reader::read;
 use crate::snapshot::{No, Snapshot};
 
@@ -35,6 +36,19 @@ fn answer(snapshot: &Snapshot, prefix: usize, area: &mut [u8]) -> u32 {
         entry[2..].copy_from_slice(&row_bytes(late));
     }
     outlook.open() as u32
+}
+
+/// The call that applies a policy: ROOM, the snapshot, the policy.
+pub fn policy(snapshot: &[u8], policy: &[u8], out: &mut [u8]) -> u32 {
+    if out.len() < snapshot.len() {
+        return 100 + No::Room as u32;
+    }
+    match rewritten(snapshot, policy) {
+        Ok(bytes) => out[..bytes.len()].copy_from_slice(&bytes),
+        Err(Refused::Snapshot(refusal)) => return 100 + refusal.number as u32,
+        Err(Refused::Policy(refusal)) => return 200 + refusal.number as u32,
+    }
+    0
 }
 
 fn row_bytes(held: Option<usize>) -> [u8; 2] {

@@ -1,11 +1,13 @@
-//! A second, independent forecaster: document 01 written down once more, in plain Rust and by other ways,
-//! so that the proved program can be compared with it. Each module is one small part.
+//! A second, independent forecaster: documents 01 and 02 written down once more, in plain Rust and by other ways,
+//! so that the proved programs can be compared with it. Each module is one small part.
 
 pub mod damage;
 pub mod decide;
 mod distance_lines;
 pub mod forecast;
 pub mod host;
+pub mod made;
+pub mod policy;
 pub mod print;
 pub mod random;
 pub mod reader;

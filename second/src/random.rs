@@ -4,7 +4,8 @@ use crate::seed::Seeded;
 use crate::snapshot::*;
 
 /// The kinds by name.
-pub const KINDS: [&str; 8] = ["small", "open", "wide", "typical", "tied", "limits", "chain-early", "chain-late"];
+pub const KINDS: [&str; 9] =
+    ["small", "open", "wide", "typical", "tied", "limits", "chain-early", "chain-late", "sessions"];
 
 /// A snapshot of the kind, or nothing where there is no such kind.
 pub fn random(seed: u64, kind: &str) -> Option<Snapshot> {
@@ -19,6 +20,7 @@ pub fn random(seed: u64, kind: &str) -> Option<Snapshot> {
         "limits" => full(seeded, &limits(), varied_route),
         "chain-early" => chained(seeded, chain_early),
         "chain-late" => chained(seeded, chain_late),
+        "sessions" => full(seeded, &[16; PREFIXES], session_route),
         _ => return None,
     };
     Some(snapshot)
@@ -139,6 +141,12 @@ fn varied_route(seeded: &mut Seeded, serial: u32) -> Route {
         neighbour_id: seeded.within(1, u32::MAX),
         peer: (seeded.within(0, 0xffff) << 16) + serial + 1,
     }
+}
+
+/// A route of one of four sessions that every fourth router has, so that there are 64 sessions in all.
+fn session_route(seeded: &mut Seeded, serial: u32) -> Route {
+    let (path, peer) = (seeded.pick(&[1, 1, 2, 3]), 0xc000_0201 + 4 * serial + seeded.within(0, 3));
+    Route { router: 4 * serial as u8, path, peer, ..varied_route(seeded, serial) }
 }
 
 /// Routes that stay tied until ids and peers are compared.

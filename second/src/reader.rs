@@ -6,20 +6,29 @@ use crate::snapshot::*;
 /// The snapshot of these bytes, or the first no with its place.
 pub fn read(bytes: &[u8]) -> Result<Snapshot, Refusal> {
     let mut reading = Reading::default();
+    in_records(bytes, |rest| {
+        let (record, length) = reading.judge(rest)?;
+        reading.take(record);
+        Ok((length, matches!(record, Record::End(_))))
+    })?;
+    Ok(reading.snapshot)
+}
+
+/// Goes along the bytes record by record; what follows the end record is TAIL. `next` judges and takes the record at
+/// the head of what is left, and tells its length and whether it is the end record.
+pub fn in_records(bytes: &[u8], mut next: impl FnMut(&[u8]) -> Result<(usize, bool), No>) -> Result<(), Refusal> {
     let mut place = 0;
     loop {
-        let judged = reading.judge(&bytes[place..]);
-        let (record, length) = judged.map_err(|number| Refusal { number, place })?;
+        let (length, ends) = next(&bytes[place..]).map_err(|number| Refusal { number, place })?;
         place += length;
-        if let Record::End(_) = record {
+        if ends {
             break;
         }
-        reading.take(record);
     }
     if place < bytes.len() {
         return Err(Refusal { number: No::Tail, place });
     }
-    Ok(reading.snapshot)
+    Ok(())
 }
 
 /// What has been read so far.
@@ -86,7 +95,7 @@ impl Reading {
             Record::Distance { from, to, distance } => {
                 self.is_router(from) && self.is_router(to) && distance <= FARTHEST
             }
-            Record::Prefix { address, length } => length <= 32 && bits_beyond(address, length) == 0,
+            Record::Prefix { address, length } => prefix_in_range(address, length),
             Record::Route(ref route) => self.is_router(route.router) && route_in_range(route),
             Record::End(_) => true,
         }
@@ -149,7 +158,7 @@ impl Reading {
     }
 }
 
-fn check(passed: bool, number: No) -> Result<(), No> {
+pub fn check(passed: bool, number: No) -> Result<(), No> {
     if passed {
         Ok(())
     } else {
@@ -157,9 +166,9 @@ fn check(passed: bool, number: No) -> Result<(), No> {
     }
 }
 
-/// The address bits that a prefix of this length must leave at 0.
-fn bits_beyond(address: u32, length: u8) -> u32 {
-    address.checked_shl(u32::from(length)).unwrap_or(0)
+/// At most 32 bits long, and no address bit set beyond them.
+pub fn prefix_in_range(address: u32, length: u8) -> bool {
+    length <= 32 && address.checked_shl(u32::from(length)).unwrap_or(0) == 0
 }
 
 fn route_in_range(route: &Route) -> bool {

@@ -40,7 +40,7 @@ pub fn kind_name(kind: u8) -> &'static str {
 }
 
 /// The number that these bytes are, most significant first.
-fn number(bytes: &[u8]) -> u32 {
+pub fn number(bytes: &[u8]) -> u32 {
     bytes.iter().fold(0, |sum, &byte| (sum << 8) | u32::from(byte))
 }
 
@@ -97,8 +97,16 @@ fn encode_route(route: &Route) -> Vec<u8> {
     .concat()
 }
 
-/// The bytes cut into records as far as known kinds and whole bodies go; what is left comes as one last piece.
+/// How long the body of a known kind is: what tells the records of one file from those of another.
+pub type Bodies = fn(u8) -> Option<usize>;
+
+/// A snapshot's bytes cut into records.
 pub fn cut(bytes: &[u8]) -> Vec<&[u8]> {
+    cut_by(bytes, body_length)
+}
+
+/// The bytes cut into records as far as known kinds and whole bodies go; what is left comes as one last piece.
+pub fn cut_by(bytes: &[u8], body_length: Bodies) -> Vec<&[u8]> {
     let mut pieces = Vec::new();
     let mut rest = bytes;
     while let Some(&kind) = rest.first() {

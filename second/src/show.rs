@@ -4,14 +4,14 @@
 use crate::decide::Mesh;
 use crate::print::dotted;
 use crate::reader::read;
-use crate::record::{body_length, cut, kind_name};
+use crate::record::{body_length, cut, cut_by, kind_name, Bodies};
 use crate::snapshot::{Prefix, Refusal, Route, Snapshot};
 use crate::stable::contenders;
 
 pub fn show(bytes: &[u8]) -> String {
     match read(bytes) {
         Ok(snapshot) => sound(&snapshot, bytes),
-        Err(refusal) => refused(&refusal, bytes),
+        Err(refusal) => refused(&refusal, bytes, body_length, kind_name),
     }
 }
 
@@ -70,10 +70,10 @@ fn route_line(route: &Route) -> String {
 }
 
 /// A refused input, record by record as far as it can be cut into records.
-fn refused(refusal: &Refusal, bytes: &[u8]) -> String {
+pub fn refused(refusal: &Refusal, bytes: &[u8], body_length: Bodies, kind_name: fn(u8) -> &'static str) -> String {
     let mut text = format!("# {refusal} ({:?}). The bytes as they are:\n", refusal.number);
     let mut place = 0;
-    for piece in cut(bytes) {
+    for piece in cut_by(bytes, body_length) {
         let whole = body_length(piece[0]).is_some_and(|body| piece.len() == 1 + body);
         let name = if whole { kind_name(piece[0]) } else { "not a whole record" };
         let here = if place == refusal.place { ", refused here" } else { "" };

@@ -2,6 +2,7 @@
 //! value: the bytes that they would be are written and read again, and must give back the same tables.
 
 use crate::forecast;
+use crate::policy::{self, apply::applied};
 use crate::reader;
 use crate::snapshot::*;
 use crate::writer;
@@ -78,6 +79,15 @@ pub fn forecast(counts: Counts, lent: &Lent, prefix: u32, early: &mut [u16], lat
         }
     }
     Ok(outlook.open())
+}
+
+/// Rewrites the preferences, marks and MEDs of the tables' snapshot by a policy.
+pub fn policy(bytes: &[u8], counts: Counts, lent: &mut Lent) -> Result<(), No> {
+    room(lent)?;
+    let snapshot = snapshot(counts, lent).ok_or(No::Table)?;
+    let policy = policy::reader::read(bytes).map_err(|refusal| refusal.number)?;
+    fill(&applied(&snapshot, &policy), lent);
+    Ok(())
 }
 
 fn room(lent: &Lent) -> Result<(), No> {

@@ -3,63 +3,16 @@
 //! snapshot is the reader's business.
 
 use crate::distance_lines::{Distances, Said};
+use crate::made::{end, raw, Fault, Made};
 use crate::reader::read;
 use crate::record::{encode, Record};
 use crate::route_line::route;
 use crate::snapshot::ROUTERS;
-use crate::words::{address, byte, number};
+use crate::words::{address, lines, prefix};
 use crate::writer::network;
-use std::fmt;
 
 /// The distance of all pairs on document 01's sheet.
 const SHEET_DISTANCE: u32 = 1;
-
-/// What is wrong with a line.
-#[derive(Debug, PartialEq, Eq)]
-pub struct Fault {
-    pub line: usize,
-    pub what: String,
-}
-
-impl fmt::Display for Fault {
-    fn fmt(&self, out: &mut fmt::Formatter) -> fmt::Result {
-        write!(out, "line {}: {}", self.line, self.what)
-    }
-}
-
-/// The bytes made, and for each piece of them its offset and the line it came from.
-#[derive(Debug, Default)]
-pub struct Made {
-    pub bytes: Vec<u8>,
-    lines: Vec<(usize, usize)>,
-    /// Whether the text has neither routers nor bytes of its own.
-    rootless: bool,
-}
-
-impl Made {
-    /// The bytes, if they are a sound snapshot; otherwise the refusal, with the line that made the refused record.
-    pub fn judged(self) -> Result<Vec<u8>, Fault> {
-        match read(&self.bytes) {
-            Ok(_) => Ok(self.bytes),
-            Err(_) if self.rootless => Err(Fault { line: 1, what: "no router is named".to_string() }),
-            Err(refusal) => {
-                let what = format!("the snapshot would be {refusal} ({:?})", refusal.number);
-                Err(Fault { line: self.line(refusal.place), what })
-            }
-        }
-    }
-
-    /// The line that made the record at this place, or the last one before it.
-    fn line(&self, place: usize) -> usize {
-        let before = self.lines.iter().take_while(|(offset, _)| *offset <= place);
-        before.last().map_or(1, |(_, line)| *line)
-    }
-
-    fn push(&mut self, line: usize, piece: &[u8]) {
-        self.lines.push((self.bytes.len(), line));
-        self.bytes.extend(piece);
-    }
-}
 
 /// The bytes of a text that says everything itself.
 pub fn make(text: &str) -> Result<Made, Fault> {
@@ -73,8 +26,7 @@ pub fn make_from_sheet(text: &str) -> Result<Made, Fault> {
 
 fn drafted(text: &str, on_sheet: bool) -> Result<Draft, Fault> {
     let mut draft = Draft { on_sheet, ends: true, ..Draft::default() };
-    for (line, content) in (1..).zip(text.lines()) {
-        let words = content.split('#').next().unwrap_or("").split_whitespace().collect::<Vec<_>>();
+    for (line, words) in lines(text) {
         draft.take(line, &words).map_err(|what| Fault { line, what })?;
         draft.last_line = line;
     }
@@ -129,14 +81,13 @@ impl Draft {
     }
 
     fn take_prefix(&mut self, line: usize, values: &[&str]) -> Result<(), String> {
-        let parts = match values {
-            [value] => value.split_once('/'),
+        let named = match *values {
+            [named] => prefix(named),
             _ => None,
         };
-        let (start, length) = parts.ok_or("expected 'prefix A.B.C.D/LENGTH'")?;
-        let record = Record::Prefix { address: address(start)?, length: number(length, 255)? as u8 };
+        let (address, length) = named.ok_or("expected 'prefix A.B.C.D/LENGTH'")??;
         self.row = 0;
-        self.pieces.push((line, encode(&record)));
+        self.pieces.push((line, encode(&Record::Prefix { address, length })));
         Ok(())
     }
 
@@ -148,29 +99,22 @@ impl Draft {
     }
 
     fn take_raw(&mut self, line: usize, values: &[&str]) -> Result<(), String> {
-        if values.is_empty() {
-            return Err("expected 'raw' and one byte or more".to_string());
-        }
-        let bytes = values.iter().map(|value| byte(value)).collect::<Result<Vec<u8>, String>>()?;
+        self.pieces.push((line, raw(values)?));
         self.raw = true;
-        self.pieces.push((line, bytes));
         Ok(())
     }
 
-    /// Without an end record there is a piece all the same, so that the input's end is traced to this line.
     fn take_end(&mut self, line: usize, values: &[&str]) -> Result<(), String> {
-        let piece = match *values {
-            ["none"] => Vec::new(),
-            [records] => encode(&Record::End(number(records, u32::MAX)?)),
-            _ => return Err("expected 'end RECORDS' or 'end none'".to_string()),
-        };
-        self.pieces.push((line, piece));
+        self.pieces.push((line, end(values)?));
         self.ends = false;
         Ok(())
     }
 
     fn made(self) -> Result<Made, Fault> {
-        let mut made = Made { rootless: self.ids.is_empty() && !self.raw, ..Made::default() };
+        let mut made = Made::new("snapshot", |bytes| read(bytes).err());
+        if self.ids.is_empty() && !self.raw {
+            made.lacks("no router is named");
+        }
         for (line, record) in self.network()? {
             made.push(line, &encode(&record));
         }
@@ -178,8 +122,7 @@ impl Draft {
             made.push(*line, piece);
         }
         if self.ends && !self.ids.is_empty() {
-            let end = Record::End(made.lines.len() as u32);
-            made.push(self.last_line, &encode(&end));
+            made.push_end(self.last_line);
         }
         Ok(made)
     }

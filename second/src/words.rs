@@ -1,4 +1,9 @@
-//! The words of a line in the text notation: numbers, indices, addresses and bytes.
+//! The words of a line in the text notation: numbers, indices, addresses, prefixes and bytes.
+
+/// The lines of a text by number, from 1, each with its words before any comment.
+pub fn lines(text: &str) -> impl Iterator<Item = (usize, Vec<&str>)> {
+    (1..).zip(text.lines().map(|line| line.split('#').next().unwrap_or("").split_whitespace().collect()))
+}
 
 /// A number that fits: at most `largest`.
 pub fn number(word: &str, largest: u32) -> Result<u32, String> {
@@ -22,6 +27,12 @@ pub fn address(word: &str) -> Result<u32, String> {
         Ok(&[a, b, c, d]) => Ok((a << 24) | (b << 16) | (c << 8) | d),
         _ => Err(format!("'{word}' is not an address such as 192.0.2.1")),
     }
+}
+
+/// A prefix of any values that fit their bytes; nothing where no '/' parts address and length.
+pub fn prefix(word: &str) -> Option<Result<(u32, u8), String>> {
+    let (start, length) = word.split_once('/')?;
+    Some(address(start).and_then(|start| Ok((start, number(length, 255)? as u8))))
 }
 
 pub fn byte(word: &str) -> Result<u8, String> {

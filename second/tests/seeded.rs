@@ -17,6 +17,17 @@ fn kinds_have_the_sizes_they_promise() {
     assert_eq!(sizes("limits"), (64, 64, 256, 1024));
     assert_eq!(sizes("chain-early"), (64, 4, 256, 1024));
     assert_eq!(sizes("chain-late"), (64, 4, 256, 1024));
+    assert_eq!(sizes("sessions"), (64, 64, 16, 1024));
+}
+
+#[test]
+fn the_routes_of_sessions_belong_to_64_of_them() {
+    let snapshot = random::random(5, "sessions").expect("a kind");
+    let routes = snapshot.prefixes.iter().flat_map(|prefix| &prefix.routes);
+    let mut sessions: Vec<(u8, u32)> = routes.map(|route| (route.router, route.peer)).collect();
+    sessions.sort();
+    sessions.dedup();
+    assert_eq!(sessions.len(), 64);
 }
 
 #[test]

@@ -1,4 +1,4 @@
-//! Links the library with the host call: that of BARRIEROSE_HOST, by default the proved one.
+//! Links the library with the host calls: that of BARRIEROSE_HOST, by default the proved one.
 
 use std::path::Path;
 

@@ -1,4 +1,4 @@
-/* Counting, asking and comparing, and snapshots made by hand; desk.h says what each is for. */
+/* Counting, asking and comparing, and snapshots and policies made by hand; desk.h says what each is for. */
 #include "desk.h"
 
 #include <stdio.h>
@@ -142,6 +142,116 @@ void make_longest(struct making *making) {
         make_prefix(making, prefix << 24, 8);
         for (uint32_t peer = 1; peer <= 16; peer++) {
             make_route(making, 0, 1, 100, 0, 1, peer);
+        }
+    }
+    make_end(making);
+}
+
+bool begins(const uint8_t *out, size_t out_len, const uint8_t *wanted, size_t length) {
+    for (size_t place = 0; place < out_len; place++) {
+        if (out[place] != (place < length ? wanted[place] : before(place))) {
+            return false;
+        }
+    }
+    return true;
+}
+
+/* Applies a policy, with bytes behind the output that are watched too; a refusal wants nothing written. */
+static void apply(const char *what, const uint8_t *snapshot, size_t length, const uint8_t *policy, size_t policy_len,
+                  size_t out_len, uint32_t wanted_number, const uint8_t *wanted) {
+    static uint8_t out[BARRIEROSE_LONGEST + 2000];
+    for (size_t place = 0; place < sizeof out; place++) {
+        out[place] = before(place);
+    }
+    uint32_t given = barrierose_policy(snapshot, length, policy, policy_len, out, out_len);
+    check(given == wanted_number, what);
+    if (given != wanted_number) {
+        printf("    %u in the place of %u\n", (unsigned)given, (unsigned)wanted_number);
+    }
+    check(begins(out, sizeof out, wanted, wanted == NULL ? 0 : length), what);
+}
+
+void policy_refused(const char *what, const uint8_t *snapshot, size_t length, const uint8_t *policy, size_t policy_len,
+                    size_t out_len, uint32_t wanted) {
+    apply(what, snapshot, length, policy, policy_len, out_len, wanted, NULL);
+}
+
+void policy_applied(const char *what, const uint8_t *snapshot, size_t length, const uint8_t *policy, size_t policy_len,
+                    size_t out_len, const uint8_t *wanted) {
+    apply(what, snapshot, length, policy, policy_len, out_len, 0, wanted);
+}
+
+const uint8_t worked[WORKED_LENGTH] = {
+    1, 0, 192, 0, 2, 2,
+    5,
+    2, 198, 51, 100, 0, 24, 0, 0, 0, 200,
+    3, 0, 0, 0xfd, 0xe9, 0, 0, 0, 150,
+    1, 1, 192, 0, 2, 5,
+    4, 0, 0, 0, 90,
+    6, 0, 0, 0, 6,
+};
+
+const uint8_t p5_rewritten[P5_LENGTH] = {
+    1, 3,
+    2, 0, 10, 0, 0, 1,
+    2, 1, 10, 0, 0, 2,
+    2, 2, 10, 0, 0, 3,
+    3, 0, 1, 0, 0, 0, 4,
+    3, 0, 2, 0, 0, 0, 5,
+    3, 1, 0, 0, 0, 0, 4,
+    3, 1, 2, 0, 0, 0, 9,
+    3, 2, 0, 0, 0, 0, 5,
+    3, 2, 1, 0, 0, 0, 9,
+    4, 198, 51, 100, 0, 24,
+    5, 0, 0xfd, 0xe9, 0, 0, 0, 100, 0, 2, 0, 1, 0, 0, 0, 0, 0, 0, 0, 2, 192, 0, 2, 1,
+    5, 0, 0xfd, 0xea, 0, 0, 0, 200, 0, 2, 0, 1, 0, 0, 0, 0, 0, 0, 0, 1, 192, 0, 2, 2,
+    5, 1, 0xfd, 0xea, 0, 0, 0, 90, 0, 2, 0, 1, 0, 0, 0, 0, 0, 0, 0, 2, 192, 0, 2, 5,
+    5, 1, 0xfd, 0xe9, 0, 0, 0, 100, 0, 2, 0, 1, 0, 0, 0, 5, 0, 0, 0, 1, 192, 0, 2, 6,
+    6, 0, 0, 0, 15,
+};
+
+const uint8_t no_sessions[NO_SESSIONS_LENGTH] = {6, 0, 0, 0, 0};
+
+void make_policy(struct making *making) {
+    making->length = 0;
+    making->records = 0;
+}
+
+void make_session(struct making *making, uint8_t router, uint32_t peer) {
+    put_kind(making, 1);
+    put(making, 1, router);
+    put(making, 4, peer);
+}
+
+void make_med_0(struct making *making) {
+    put_kind(making, 5);
+}
+
+void make_prefix_clause(struct making *making, uint32_t address, uint8_t length, uint32_t preference) {
+    put_kind(making, 2);
+    put(making, 4, address);
+    put(making, 1, length);
+    put(making, 4, preference);
+}
+
+void make_as_clause(struct making *making, uint32_t neighbour_as, uint32_t preference) {
+    put_kind(making, 3);
+    put(making, 4, neighbour_as);
+    put(making, 4, preference);
+}
+
+void make_clause(struct making *making, uint32_t preference) {
+    put_kind(making, 4);
+    put(making, 4, preference);
+}
+
+void make_longest_policy(struct making *making) {
+    make_policy(making);
+    for (uint32_t peer = 1; peer <= 64; peer++) {
+        make_session(making, 0, peer);
+        make_med_0(making);
+        for (uint32_t number = 1; number <= 32; number++) {
+            make_prefix_clause(making, 0, number == 31 ? 8 : 9, number == 31 ? peer : 999);
         }
     }
     make_end(making);

@@ -1,4 +1,4 @@
-/* Shared by the tests of the host call: counting, asking and comparing every byte, and snapshots made by hand. */
+/* Shared by the tests of the host calls: counting, asking and comparing every byte, snapshots and policies by hand. */
 #ifndef DESK_H
 #define DESK_H
 
@@ -51,5 +51,38 @@ void make_end(struct making *making);
 
 /* The longest snapshot: 64 routers, 64 prefixes, 16 equal routes in each, all at router 0. */
 void make_longest(struct making *making);
+
+/* Applies a policy with an output of out_len bytes and checks that the number is the one wanted and no byte changed. */
+void policy_refused(const char *what, const uint8_t *snapshot, size_t length, const uint8_t *policy, size_t policy_len,
+                    size_t out_len, uint32_t wanted);
+
+/* Applies a policy and checks the bytes it gives, as many as the snapshot has, and that all others stay. */
+void policy_applied(const char *what, const uint8_t *snapshot, size_t length, const uint8_t *policy, size_t policy_len,
+                    size_t out_len, const uint8_t *wanted);
+
+/* Whether bytes that were before(0), before(1) .. have these at their head and are otherwise as they were. */
+bool begins(const uint8_t *out, size_t out_len, const uint8_t *wanted, size_t length);
+
+/* The worked sample: a policy for P5, and P5 rewritten by it. */
+#define WORKED_LENGTH 42
+extern const uint8_t worked[WORKED_LENGTH];
+extern const uint8_t p5_rewritten[P5_LENGTH];
+
+/* The policy that is the end record alone. */
+#define NO_SESSIONS_LENGTH 5
+extern const uint8_t no_sessions[NO_SESSIONS_LENGTH];
+
+/* A policy on its way: begun, a session, its MED 0, its clauses; make_end ends it. */
+void make_policy(struct making *making);
+void make_session(struct making *making, uint8_t router, uint32_t peer);
+void make_med_0(struct making *making);
+void make_prefix_clause(struct making *making, uint32_t address, uint8_t length, uint32_t preference);
+void make_as_clause(struct making *making, uint32_t neighbour_as, uint32_t preference);
+void make_clause(struct making *making, uint32_t preference);
+
+/* The longest policy: router 0's sessions with peers 1 to 64, MED 0 and 32 clauses in each, of which the last but one
+ * gives 0.0.0.0/8 the preference of the session's peer and the others fit no prefix of the longest snapshot. */
+#define LONGEST_POLICY 20933
+void make_longest_policy(struct making *making);
 
 #endif

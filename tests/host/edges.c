@@ -1,6 +1,6 @@
 /*
- * The host call with snapshot and area at the very edge of memory that nobody may touch: one byte too far, before or
- * behind, and the program ends by a signal. The snapshot may never be written, nor the area on a refusal.
+ * The host calls with all that they are lent at the very edge of memory that nobody may touch: one byte too far, before
+ * or behind, and the program ends by a signal. Snapshot and policy may never be written, nor the rest on a refusal.
  */
 #define _DEFAULT_SOURCE
 #include "desk.h"
@@ -16,8 +16,8 @@ struct fenced {
     size_t size;
 };
 
-static struct making making;
-static struct fenced snapshot_room, area_room;
+static struct making making, making_policy;
+static struct fenced snapshot_room, policy_room, area_room;
 
 static bool fence(struct fenced *fenced, size_t least) {
     size_t page = (size_t)sysconf(_SC_PAGESIZE);
@@ -119,10 +119,89 @@ static void the_longest(void) {
     ask_at_all_edges((struct asked){"more than decides", making.bytes, length + 999, 256, 110, NULL, 0});
 }
 
+struct asked_policy {
+    const char *what;
+    const uint8_t *bytes;
+    size_t length;
+    const uint8_t *policy;
+    size_t policy_len;
+    size_t out_len;
+    uint32_t wanted;
+    const uint8_t *rewritten;
+};
+
+static void apply_at(const struct asked_policy *asked, bool snapshot_far, bool policy_far, bool out_far) {
+    uint8_t *snapshot = at_edge(&snapshot_room, asked->length, snapshot_far);
+    uint8_t *policy = at_edge(&policy_room, asked->policy_len, policy_far);
+    uint8_t *out = at_edge(&area_room, asked->out_len, out_far);
+    memcpy(snapshot, asked->bytes, asked->length);
+    memcpy(policy, asked->policy, asked->policy_len);
+    for (size_t place = 0; place < asked->out_len; place++) {
+        out[place] = before(place);
+    }
+    allow(&snapshot_room, PROT_READ);
+    allow(&policy_room, PROT_READ);
+    allow(&area_room, asked->wanted > 100 ? PROT_READ : PROT_READ | PROT_WRITE);
+    uint32_t given = barrierose_policy(snapshot, asked->length, policy, asked->policy_len, out, asked->out_len);
+    check(given == asked->wanted, asked->what);
+    check(begins(out, asked->out_len, asked->rewritten, asked->wanted > 100 ? 0 : asked->length), asked->what);
+    allow(&snapshot_room, PROT_READ | PROT_WRITE);
+    allow(&policy_room, PROT_READ | PROT_WRITE);
+    allow(&area_room, PROT_READ | PROT_WRITE);
+}
+
+static void apply_at_all_edges(struct asked_policy asked) {
+    asking = asked.what;
+    for (int edges = 0; edges < 8; edges++) {
+        apply_at(&asked, (edges & 1) != 0, (edges & 2) != 0, (edges & 4) != 0);
+    }
+}
+
+static void policies_in_outputs_about_the_limit(void) {
+    for (size_t out_len = P5_LENGTH; out_len <= P5_LENGTH + 4; out_len++) {
+        apply_at_all_edges(
+            (struct asked_policy){"a policy", p5, P5_LENGTH, worked, WORKED_LENGTH, out_len, 0, p5_rewritten});
+    }
+    for (size_t out_len = 0; out_len < P5_LENGTH; out_len++) {
+        apply_at_all_edges((struct asked_policy){"a policy in a short output", p5, P5_LENGTH, worked, WORKED_LENGTH,
+                                                 out_len, 101, NULL});
+    }
+}
+
+static void policies_cut_everywhere(void) {
+    for (size_t length = 0; length < WORKED_LENGTH; length++) {
+        apply_at_all_edges(
+            (struct asked_policy){"a policy cut short", p5, P5_LENGTH, worked, length, P5_LENGTH, 202, NULL});
+    }
+    for (size_t length = 0; length < P5_LENGTH; length++) {
+        apply_at_all_edges((struct asked_policy){"a policy for P5 cut short", p5, length, worked, WORKED_LENGTH, length,
+                                                 102, NULL});
+    }
+}
+
+/* The longest of both: of the first prefix, 0.0.0.0/8, each route gets its peer as its preference. */
+static void the_longest_policy(void) {
+    static struct making rewritten;
+    make_longest(&making);
+    make_longest(&rewritten);
+    make_longest_policy(&making_policy);
+    for (uint32_t row = 0; row < 16; row++) {
+        rewritten.bytes[making.length - 5 - 64 * (6 + 16 * 24) + 6 + 24 * row + 7] = (uint8_t)(row + 1);
+    }
+    size_t length = making.length, policy_len = making_policy.length;
+    apply_at_all_edges((struct asked_policy){"the longest policy", making.bytes, length, making_policy.bytes,
+                                             policy_len, length, 0, rewritten.bytes});
+    apply_at_all_edges((struct asked_policy){"the longest policy and a byte", making.bytes, length, making_policy.bytes,
+                                             policy_len + 1, length, 210, NULL});
+    apply_at_all_edges((struct asked_policy){"the longest policy less a byte", making.bytes, length,
+                                             making_policy.bytes, policy_len - 1, length, 202, NULL});
+}
+
 int main(void) {
     signal(SIGSEGV, too_far);
     signal(SIGBUS, too_far);
-    if (!fence(&snapshot_room, sizeof making.bytes) || !fence(&area_room, 512)) {
+    if (!fence(&snapshot_room, sizeof making.bytes) || !fence(&policy_room, sizeof making_policy.bytes)
+        || !fence(&area_room, sizeof making.bytes)) {
         check(false, "mmap");
         return report();
     }
@@ -130,5 +209,8 @@ int main(void) {
     p5_cut_everywhere();
     p5_followed();
     the_longest();
+    policies_in_outputs_about_the_limit();
+    policies_cut_everywhere();
+    the_longest_policy();
     return report();
 }

@@ -1,6 +1,7 @@
 /*
- * How much stack the host call takes: a thread's stack is painted, the call made on it, and the deepest byte that
- * lost its paint looked up. The arguments are files with snapshots, asked for each of their prefixes.
+ * How much stack the host calls take: a thread's stack is painted, the call made on it, and the deepest byte that
+ * lost its paint looked up. The arguments are files with snapshots, asked for each of their prefixes, and rewritten by
+ * the longest policy.
  */
 #define _DEFAULT_SOURCE
 #include "desk.h"
@@ -10,8 +11,9 @@
 #include <string.h>
 #include <sys/mman.h>
 
-/* The most stack that the call may take, in bytes. */
+/* The most stack that a forecast may take, and that a policy may take, in bytes. */
 #define STACK_BOUND (32 * 1024)
+#define POLICY_STACK_BOUND (60 * 1024)
 
 #define STACK_SIZE (512 * 1024)
 #define PAINT 0xa5
@@ -24,6 +26,8 @@ static uint8_t snapshot[BARRIEROSE_LONGEST + 1];
 static size_t length;
 static uint32_t prefix, given;
 static uint8_t area[BARRIEROSE_AREA];
+static struct making longest_policy;
+static uint8_t out[BARRIEROSE_LONGEST + 1];
 
 static void *nothing(void *unused) {
     return unused;
@@ -39,6 +43,11 @@ static void *control(void *unused) {
 
 static void *call(void *unused) {
     given = barrierose_forecast(snapshot, length, prefix, area, sizeof area);
+    return unused;
+}
+
+static void *call_policy(void *unused) {
+    given = barrierose_policy(snapshot, length, longest_policy.bytes, longest_policy.length, out, sizeof out);
     return unused;
 }
 
@@ -67,17 +76,36 @@ static bool load(const char *name) {
     return fclose(file) == 0 && length > 0;
 }
 
+static size_t more(size_t one, size_t other) {
+    return one > other ? one : other;
+}
+
 /* The most that any prefix of the loaded snapshot takes, and the refusal after the last one. */
 static size_t deepest_of_all(const char *name) {
     size_t most = 0;
     prefix = 0;
     do {
-        size_t taken = depth(call);
-        most = taken > most ? taken : most;
+        most = more(most, depth(call));
         prefix++;
     } while (given <= 64 && prefix <= 64);
     check(given == BARRIEROSE_NO_PREFIX && prefix > 1, name);
     return most;
+}
+
+/* What the longest policy takes that is applied to the loaded snapshot, or is refused for want of its last byte. */
+static size_t deepest_of_policy(const char *name) {
+    make_longest_policy(&longest_policy);
+    size_t most = depth(call_policy);
+    check(given == 0, name);
+    longest_policy.length--;
+    most = more(most, depth(call_policy));
+    check(given == 202, name);
+    return most;
+}
+
+static void within(const char *what, size_t most, size_t own, size_t bound) {
+    printf("%s takes %zu bytes of stack at most (a thread that does nothing: %zu)\n", what, most - own, own);
+    check(most > own && most - own < bound, what);
 }
 
 int main(int count, char **names) {
@@ -86,14 +114,14 @@ int main(int count, char **names) {
         check(false, "mmap");
         return report();
     }
-    size_t own = depth(nothing), known = depth(control), most = 0;
+    size_t own = depth(nothing), known = depth(control), most = 0, most_of_policy = 0;
     check(own > 0 && known >= own + CONTROL - 1024 && known <= own + CONTROL + 1024, "the measuring itself");
     for (int number = 1; number < count; number++) {
         check(load(names[number]), names[number]);
-        size_t taken = deepest_of_all(names[number]);
-        most = taken > most ? taken : most;
+        most = more(most, deepest_of_all(names[number]));
+        most_of_policy = more(most_of_policy, deepest_of_policy(names[number]));
     }
-    printf("the call takes %zu bytes of stack at most (a thread that does nothing: %zu)\n", most - own, own);
-    check(most > own && most - own < STACK_BOUND, "stack within its bound");
+    within("a forecast", most, own, STACK_BOUND);
+    within("a policy", most_of_policy, own, POLICY_STACK_BOUND);
     return report();
 }

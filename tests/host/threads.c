@@ -1,4 +1,4 @@
-/* The host call from several threads at once, each with its own snapshot and area and with an answer known by hand. */
+/* The host calls from several threads at once, each with its own snapshot and area and with answers known by hand. */
 #include "desk.h"
 
 #include <pthread.h>
@@ -12,32 +12,58 @@ struct caller {
     uint32_t wanted;
     const uint16_t *rows;
     size_t routers;
+    const uint8_t *policy;
+    size_t policy_len;
+    uint32_t policy_wanted;
+    const uint8_t *rewritten;
     unsigned wrong;
 };
+
+static void forecast(struct caller *caller) {
+    uint8_t area[BARRIEROSE_AREA];
+    for (size_t place = 0; place < sizeof area; place++) {
+        area[place] = before(place);
+    }
+    uint32_t given = barrierose_forecast(caller->snapshot, P5_LENGTH, 0, area, sizeof area);
+    if (given != caller->wanted || !holds(area, sizeof area, caller->rows, caller->routers)) {
+        caller->wrong++;
+    }
+}
+
+static void apply(struct caller *caller) {
+    uint8_t out[P5_LENGTH + 7];
+    for (size_t place = 0; place < sizeof out; place++) {
+        out[place] = before(place);
+    }
+    uint32_t given =
+        barrierose_policy(caller->snapshot, P5_LENGTH, caller->policy, caller->policy_len, out, sizeof out);
+    size_t length = caller->rewritten == NULL ? 0 : P5_LENGTH;
+    if (given != caller->policy_wanted || !begins(out, sizeof out, caller->rewritten, length)) {
+        caller->wrong++;
+    }
+}
 
 static void *calling(void *argument) {
     struct caller *caller = argument;
     for (int number = 0; number < CALLS; number++) {
-        uint8_t area[BARRIEROSE_AREA];
-        for (size_t place = 0; place < sizeof area; place++) {
-            area[place] = before(place);
-        }
-        uint32_t given = barrierose_forecast(caller->snapshot, P5_LENGTH, 0, area, sizeof area);
-        if (given != caller->wanted || !holds(area, sizeof area, caller->rows, caller->routers)) {
-            caller->wrong++;
-        }
+        forecast(caller);
+        apply(caller);
     }
     return NULL;
 }
 
 int main(void) {
-    /* As P5; as P5; its row 0 with origin 2, which settles it; an end record that says 14. */
+    /* As P5; as P5; its row 0 with origin 2, which settles it; an end record that says 14. Their policies: the worked
+     * sample; no sessions; the worked sample less a byte; and again the worked sample. */
     static const uint16_t settled[2 * 3] = {1, 1, 3, 3, 1, 1};
     static struct caller callers[THREADS] = {
-        {.wanted = 3, .rows = p5_rows, .routers = 3},
-        {.wanted = 3, .rows = p5_rows, .routers = 3},
-        {.wanted = 0, .rows = settled, .routers = 3},
-        {.wanted = 109},
+        {.wanted = 3, .rows = p5_rows, .routers = 3, .policy = worked, .policy_len = WORKED_LENGTH,
+         .policy_wanted = 0, .rewritten = p5_rewritten},
+        {.wanted = 3, .rows = p5_rows, .routers = 3, .policy = no_sessions, .policy_len = NO_SESSIONS_LENGTH,
+         .policy_wanted = 0, .rewritten = p5},
+        {.wanted = 0, .rows = settled, .routers = 3, .policy = worked, .policy_len = WORKED_LENGTH - 1,
+         .policy_wanted = 202},
+        {.wanted = 109, .policy = worked, .policy_len = WORKED_LENGTH, .policy_wanted = 109},
     };
     for (int number = 0; number < THREADS; number++) {
         memcpy(callers[number].snapshot, p5, P5_LENGTH);

@@ -11,10 +11,12 @@ static void *area[AREAS];
 
 static uint64_t answer(const struct request *asked) {
     const uint64_t *n = asked->numbers, *bytes = asked->bytes;
-    void *first = area[TABLES], *second = area[TABLES + 1];
+    void *first = area[TABLES], *second = area[TABLES + 1], *third = area[TABLES + 2];
     switch (asked->which) {
     case HOST:
         return barrierose_forecast(first, bytes[TABLES], (uint32_t)n[0], second, bytes[TABLES + 1]);
+    case HOST_POLICY:
+        return barrierose_policy(first, bytes[TABLES], second, bytes[TABLES + 1], third, bytes[TABLES + 2]);
     case READ:
         return measure_read(first, bytes[TABLES], ALL);
     case WRITE:
@@ -22,6 +24,8 @@ static uint64_t answer(const struct request *asked) {
     case FORECAST:
         return measure_forecast((uint32_t)n[0], (uint32_t)n[1], (uint32_t)n[2], ALL, (uint32_t)n[3], first,
                                 bytes[TABLES] / 2, second, bytes[TABLES + 1] / 2);
+    case POLICY:
+        return measure_policy(first, bytes[TABLES], (uint32_t)n[0], (uint32_t)n[1], (uint32_t)n[2], ALL);
     default:
         exit(2);
     }

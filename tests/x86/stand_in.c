@@ -44,8 +44,8 @@ static void back(void *area, size_t bytes, int altered) {
     free(now);
 }
 
-/* Asks for a call. The areas from one number up to another are lent to be altered. */
-static uint64_t ask(const struct request *asked, void *const *area, int first, int end) {
+/* Asks for a call. The areas whose bits are set are lent to be altered. */
+static uint64_t ask(const struct request *asked, void *const *area, unsigned altered) {
     uint64_t said;
     pthread_mutex_lock(&turn);
     if (to == NULL) {
@@ -58,7 +58,7 @@ static uint64_t ask(const struct request *asked, void *const *area, int first, i
     fflush(to);
     need(fread(&said, sizeof said, 1, from) == 1, "it ended");
     for (int k = 0; k < AREAS; k++) {
-        back(area[k], asked->bytes[k], first <= k && k < end);
+        back(area[k], asked->bytes[k], (altered >> k & 1) == 1);
     }
     pthread_mutex_unlock(&turn);
     return said;
@@ -72,29 +72,50 @@ static uint64_t ask(const struct request *asked, void *const *area, int first, i
         4 * preference_len, 4 * path_len, 4 * origin_len, 4 * mark_len, 4 * med_len, 4 * nid_len, 4 * peer_len
 #define NONE 0, 0, 0, 0, 0, 0, 0, 0, 0, 0, 0, 0, 0, 0
 
+/* The bits of the tables, of those among them that a policy rewrites, and of the areas behind them. */
+#define EVERY_TABLE ((1u << TABLES) - 1)
+#define REWRITTEN (1u << 7 | 1u << 10 | 1u << 11)
+#define FIRST (1u << TABLES)
+#define SECOND (1u << (TABLES + 1))
+#define THIRD (1u << (TABLES + 2))
+
 uint32_t barrierose_forecast(const uint8_t *snapshot, size_t snapshot_len, uint32_t prefix, uint8_t *area,
                              size_t area_len) {
-    struct request asked = {HOST, {prefix}, {NONE, snapshot_len, area_len}};
-    void *areas[AREAS] = {NONE, (void *)snapshot, area};
-    return (uint32_t)ask(&asked, areas, TABLES + 1, AREAS);
+    struct request asked = {HOST, {prefix}, {NONE, snapshot_len, area_len, 0}};
+    void *areas[AREAS] = {NONE, (void *)snapshot, area, NULL};
+    return (uint32_t)ask(&asked, areas, SECOND);
+}
+
+uint32_t barrierose_policy(const uint8_t *snapshot, size_t snapshot_len, const uint8_t *policy, size_t policy_len,
+                           uint8_t *out, size_t out_len) {
+    struct request asked = {HOST_POLICY, {0}, {NONE, snapshot_len, policy_len, out_len}};
+    void *areas[AREAS] = {NONE, (void *)snapshot, (void *)policy, out};
+    return (uint32_t)ask(&asked, areas, THIRD);
 }
 
 uint32_t measure_read(const uint8_t *input, size_t input_len, LENT()) {
-    struct request asked = {READ, {0}, {BYTES, input_len, 0}};
-    void *areas[AREAS] = {ALL, (void *)input, NULL};
-    return (uint32_t)ask(&asked, areas, 0, TABLES);
+    struct request asked = {READ, {0}, {BYTES, input_len, 0, 0}};
+    void *areas[AREAS] = {ALL, (void *)input, NULL, NULL};
+    return (uint32_t)ask(&asked, areas, EVERY_TABLE);
 }
 
 size_t measure_write(uint32_t routers, uint32_t prefixes, uint32_t of_routes, LENT(const), uint8_t *out,
                      size_t out_len) {
-    struct request asked = {WRITE, {routers, prefixes, of_routes}, {BYTES, out_len, 0}};
-    void *areas[AREAS] = {ALL, out, NULL};
-    return ask(&asked, areas, TABLES, AREAS);
+    struct request asked = {WRITE, {routers, prefixes, of_routes}, {BYTES, out_len, 0, 0}};
+    void *areas[AREAS] = {ALL, out, NULL, NULL};
+    return ask(&asked, areas, FIRST);
 }
 
 uint32_t measure_forecast(uint32_t routers, uint32_t prefixes, uint32_t of_routes, LENT(const), uint32_t prefix,
                           uint16_t *early, size_t early_len, uint16_t *late, size_t late_len) {
-    struct request asked = {FORECAST, {routers, prefixes, of_routes, prefix}, {BYTES, 2 * early_len, 2 * late_len}};
-    void *areas[AREAS] = {ALL, early, late};
-    return (uint32_t)ask(&asked, areas, TABLES, AREAS);
+    struct request asked = {FORECAST, {routers, prefixes, of_routes, prefix}, {BYTES, 2 * early_len, 2 * late_len, 0}};
+    void *areas[AREAS] = {ALL, early, late, NULL};
+    return (uint32_t)ask(&asked, areas, FIRST | SECOND);
+}
+
+uint32_t measure_policy(const uint8_t *policy, size_t policy_len, uint32_t routers, uint32_t prefixes,
+                        uint32_t of_routes, LENT_FOR(const, )) {
+    struct request asked = {POLICY, {routers, prefixes, of_routes}, {BYTES, policy_len, 0, 0}};
+    void *areas[AREAS] = {ALL, (void *)policy, NULL, NULL};
+    return (uint32_t)ask(&asked, areas, REWRITTEN);
 }

@@ -14,6 +14,9 @@ use std::process::ExitCode;
 
 const INPUTS: [&str; 5] = ["typical", "tied", "chain-early", "chain-late", "longest"];
 
+/// Policies for the snapshot of sessions.
+const POLICIES: [&str; 2] = ["some-clauses", "all-clauses"];
+
 fn main() -> ExitCode {
     let arguments: Vec<String> = std::env::args().skip(1).collect();
     let done = match &arguments[..] {
@@ -35,13 +38,17 @@ fn compare(directory: &str, programs: &Programs) -> Result<(), String> {
     println!("{:<13}{:<10}{:>12}{:>12}{:>8}", "input", "call", "plain", "proved", "ratio");
     for name in INPUTS {
         let file = format!("{directory}/{name}.snapshot");
-        let bytes = std::fs::read(&file).map_err(|fault| format!("{file}: {fault}"))?;
-        let mut sides = Sides::new(bytes).map_err(|fault| format!("{name}: {fault}"))?;
+        let mut sides = Sides::new(bytes(&file)?).map_err(|fault| format!("{name}: {fault}"))?;
         let prefixes = sides.prefixes();
         line(name, "read", sides.reading(), 1);
         line(name, "write", sides.writing(), 1);
         line(name, "forecast", sides.forecasting(), prefixes);
         line(name, "program", programs.on(&file)?, 1);
+    }
+    for name in POLICIES {
+        let mut sides = Sides::new(bytes(&format!("{directory}/sessions.snapshot"))?)?;
+        let policy = bytes(&format!("{directory}/{name}.policy"))?;
+        line(name, "policy", sides.applying(&policy).map_err(|fault| format!("{name}: {fault}"))?, 1);
     }
     println!("\nNanoseconds a call, shortest times");
     println!("{:<30}{:<8}{:>11}{:>11}{:>11}{:>9}", "growth", "", "least", "one more", "ten more", "times");
@@ -49,6 +56,10 @@ fn compare(directory: &str, programs: &Programs) -> Result<(), String> {
     grow_calls("write 0, 102, 1020 routes", growth::in_routes(), Sides::writing)?;
     grow_calls("forecast 2, 24, 222 rounds", growth::in_rounds()?, Sides::forecasting)?;
     grow_programs("program 0, 6, 60 prefixes", growth::in_prefixes(), directory, programs)
+}
+
+fn bytes(file: &str) -> Result<Vec<u8>, String> {
+    std::fs::read(file).map_err(|fault| format!("{file}: {fault}"))
 }
 
 /// Times runs of so many calls each, and prints the times of one call.

@@ -2,7 +2,7 @@
 
 use crate::clock::Run;
 use crate::proved;
-use plain::{forecast, read, write, Counts, Lent, LONGEST};
+use plain::{forecast, policy, read, write, Counts, Lent, LONGEST};
 use std::hint::black_box;
 
 /// What tables hold before they are first read into, so that a row too many is seen.
@@ -53,6 +53,29 @@ impl Sides {
         let wanted = outlook.map_or_else(|(number, _)| 100 + number, |outlook| outlook.open);
         let given = proved::forecast(self.counts, &mut self.proved, prefix, &mut proved.0, &mut proved.1);
         same(given == wanted && proved == plain, "forecasting")
+    }
+
+    /// The three columns that are rewritten; and without the policy's last byte, the refusal.
+    fn compare_applied(&mut self, input: &[u8]) -> Result<(), String> {
+        let answer = policy(input, self.counts, &mut self.plain.tables());
+        let wanted = answer.err().map_or(0, |(number, _)| number);
+        let given = proved::policy(input, self.counts, &mut self.proved);
+        same(given == wanted && self.plain.0 == self.proved.0, "applying a policy")
+    }
+
+    /// A policy is applied again and again: the tables are rewritten to what they are already, in the same steps.
+    pub fn applying<'a>(&'a mut self, input: &'a [u8]) -> Result<[Run<'a>; 2], String> {
+        self.compare_applied(&input[..input.len() - 1])?;
+        self.compare_applied(input)?;
+        let Sides { counts, plain, proved, .. } = self;
+        let counts = *counts;
+        let plain = move || {
+            let _ = black_box(policy(black_box(input), counts, &mut plain.tables()));
+        };
+        let proved = move || {
+            let _ = black_box(proved::policy(black_box(input), counts, proved));
+        };
+        Ok([Box::new(plain), Box::new(proved)])
     }
 
     pub fn reading(&mut self) -> [Run<'_>; 2] {

@@ -1,5 +1,6 @@
 //! Reading: one pass that judges and writes nothing, then one that fills the tables.
 
+use crate::cursor::Cursor;
 use crate::judge::{prefix_in_range, Route};
 use crate::tables::*;
 
@@ -10,54 +11,8 @@ pub fn read(input: &[u8], tables: &mut Tables) -> Result<Counts, Refusal> {
     Ok(counts)
 }
 
-/// The place and the number of records before it.
-struct Cursor<'a> {
-    input: &'a [u8],
-    place: usize,
-    records: u32,
-}
-
-impl<'a> Cursor<'a> {
-    fn no<T>(&self, number: u32) -> Result<T, Refusal> {
-        Err((number, self.place))
-    }
-
-    fn check(&self, passed: bool, number: u32) -> Result<(), Refusal> {
-        if passed {
-            Ok(())
-        } else {
-            self.no(number)
-        }
-    }
-
-    /// The kind byte due here: CUT, KIND.
-    fn kind(&self) -> Result<u8, Refusal> {
-        match self.input.get(self.place) {
-            None => self.no(CUT),
-            Some(kind @ 1..=6) => Ok(*kind),
-            Some(_) => self.no(KIND),
-        }
-    }
-
-    fn body<const LENGTH: usize>(&self) -> Result<&'a [u8; LENGTH], Refusal> {
-        let rest = &self.input[self.place + 1..];
-        rest.first_chunk().ok_or((CUT, self.place))
-    }
-
-    /// The body of the one kind that may stand here.
-    fn only<const LENGTH: usize>(&self, kind: u8) -> Result<&'a [u8; LENGTH], Refusal> {
-        self.check(self.kind()? == kind, PLACE)?;
-        self.body()
-    }
-
-    fn pass(&mut self, body: usize) {
-        self.place += 1 + body;
-        self.records += 1;
-    }
-}
-
 fn judge(input: &[u8]) -> Result<Counts, Refusal> {
-    let mut cursor = Cursor { input, place: 0, records: 0 };
+    let mut cursor = Cursor::new(input);
     let &[routers] = cursor.only(1)?;
     let routers = usize::from(routers);
     cursor.check((1..=ROUTERS).contains(&routers), FIELD)?;
@@ -65,7 +20,6 @@ fn judge(input: &[u8]) -> Result<Counts, Refusal> {
     judge_ids(&mut cursor, routers)?;
     judge_distances(&mut cursor, routers)?;
     let (prefixes, routes) = judge_prefixes(&mut cursor, routers)?;
-    cursor.check(cursor.place == input.len(), TAIL)?;
     Ok(Counts { routers, prefixes, routes })
 }
 
@@ -124,9 +78,7 @@ fn judge_prefixes(cursor: &mut Cursor, routers: usize) -> Result<(usize, usize),
                 in_prefix += 1;
             }
             6 => {
-                let &records = cursor.body()?;
-                cursor.check(u32::from_be_bytes(records) == cursor.records, COUNT)?;
-                cursor.pass(4);
+                cursor.end()?;
                 return Ok((prefixes, routes));
             }
             _ => return cursor.no(PLACE),

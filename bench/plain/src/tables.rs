@@ -7,6 +7,10 @@ pub const ROUTES: usize = 1024;
 pub const FARTHEST: u32 = 16_777_215;
 pub const LAST_AS: u32 = 65_534;
 
+/// The most sessions of a policy, and the most clauses of a session.
+pub const SESSIONS: usize = 64;
+pub const CLAUSES: usize = 32;
+
 /// The length of the longest snapshot; one byte more decides any input's answer.
 pub const LONGEST: usize = 53_575;
 

@@ -1,8 +1,9 @@
 //! The baseline against the independent second program, on random and damaged snapshots.
 
-use plain::{forecast, page, read, write, Contest, Counts, Lent, NONE};
+use plain::{forecast, page, policy, read, write, Contest, Counts, Lent, Refusal, NONE};
+use second::policy as policies;
 use second::seed::Seeded;
-use second::snapshot::Snapshot;
+use second::snapshot::{self, Snapshot};
 use second::{damage, print, random, tables, text, writer};
 
 /// What the tables hold before anything is read into them.
@@ -15,7 +16,7 @@ fn snapshot(seed: u64, kind: &str) -> Snapshot {
 /// Kinds in turn, the large ones more seldom.
 fn some_snapshot(seed: u64) -> Snapshot {
     let kind = if seed.is_multiple_of(20) {
-        random::KINDS[2 + (seed / 20) as usize % 6]
+        random::KINDS[2 + (seed / 20) as usize % 7]
     } else {
         random::KINDS[seed as usize % 2]
     };
@@ -240,4 +241,59 @@ fn the_chains_need_240_rounds() {
         assert_eq!(rounds("chain-early", prefix).0, 240);
         assert_eq!(rounds("chain-late", prefix).1, 240);
     }
+}
+
+/// A policy for the snapshot, in every third case damaged.
+fn some_policy(seed: u64, snapshot: &Snapshot) -> Vec<u8> {
+    let kind = if seed.is_multiple_of(10) { "limits" } else { "mixed" };
+    let bytes = policies::record::write(&policies::random::random(seed, kind, snapshot).expect("a kind"));
+    if seed.is_multiple_of(3) {
+        damage::damage_policy(&bytes, seed)
+    } else {
+        bytes
+    }
+}
+
+/// Number and place, as the baseline has them.
+fn refusal(refusal: snapshot::Refusal) -> Refusal {
+    (refusal.number as u32, refusal.place)
+}
+
+#[test]
+fn policies_make_the_same_tables_or_get_the_same_refusal() {
+    let (mut applied, mut refused) = (0, [0; 13]);
+    for seed in 0..6000 {
+        let snapshot = some_snapshot(seed);
+        let bytes = some_policy(seed, &snapshot);
+        let mut lent = wanted_tables(&snapshot);
+        let answer = policy(&bytes, counts(&snapshot), &mut lent.tables());
+        let read = policies::reader::read(&bytes);
+        assert_eq!(answer, read.as_ref().map(|_| ()).map_err(|&no| refusal(no)), "seed {seed}");
+        let wanted = match read {
+            Ok(read) => wanted_tables(&policies::apply::applied(&snapshot, &read)),
+            Err(_) => wanted_tables(&snapshot),
+        };
+        assert!(lent.0 == wanted.0, "seed {seed}");
+        match answer {
+            Ok(()) => applied += 1,
+            Err((number, _)) => refused[number as usize] += 1,
+        }
+    }
+    assert!(applied > 3000 && [2, 3, 4, 5, 6, 8, 9, 10].iter().all(|&number| refused[number] > 5), "{refused:?}");
+}
+
+#[test]
+fn a_policy_refuses_in_order_and_leaves_the_tables() {
+    let snapshot = snapshot(1, "open");
+    let sound = counts(&snapshot);
+    let bad = Counts { routers: 0, ..sound };
+    for table in 0..14 {
+        let mut lent = wanted_tables(&snapshot);
+        lent.0[table].pop();
+        assert_eq!(policy(&[], bad, &mut lent.tables()), Err((1, 0)));
+    }
+    let mut lent = wanted_tables(&snapshot);
+    assert_eq!(policy(&[], bad, &mut lent.tables()), Err((11, 0)));
+    assert_eq!(policy(&[], sound, &mut lent.tables()), Err((2, 0)));
+    assert!(lent.0 == wanted_tables(&snapshot).0);
 }

@@ -34,6 +34,16 @@ extern "C" {
         nid: *const u32, nid_len: usize, peer: *const u32, peer_len: usize,
         prefix: u32, early: *mut u16, early_len: usize, late: *mut u16, late_len: usize,
     ) -> u32;
+    fn measure_policy(
+        policy: *const u8, policy_len: usize, routers: u32, prefixes: u32, routes: u32,
+        ids: *const u32, ids_len: usize, distances: *const u32, distances_len: usize,
+        address: *const u32, address_len: usize, bits: *const u32, bits_len: usize,
+        prefix_routes: *const u32, prefix_routes_len: usize,
+        router: *const u32, router_len: usize, asn: *const u32, asn_len: usize,
+        preference: *mut u32, preference_len: usize, path: *const u32, path_len: usize,
+        origin: *const u32, origin_len: usize, mark: *mut u32, mark_len: usize, med: *mut u32, med_len: usize,
+        nid: *const u32, nid_len: usize, peer: *const u32, peer_len: usize,
+    ) -> u32;
 }
 
 /// Calls with the tables in their order, each as a pointer and a length, between the other arguments.
@@ -79,4 +89,9 @@ pub fn forecast(
         as_ptr,
         (prefix, early.as_mut_ptr(), early.len(), late.as_mut_ptr(), late.len())
     )
+}
+
+/// 0, or the refusal's number; rewrites the columns of preferences, marks and MEDs.
+pub fn policy(policy: &[u8], [routers, prefixes, routes]: [u32; 3], tables: &mut [Vec<u32>; 14]) -> u32 {
+    call!(measure_policy, (policy.as_ptr(), policy.len(), routers, prefixes, routes), tables, as_mut_ptr, ())
 }

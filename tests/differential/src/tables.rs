@@ -14,7 +14,7 @@ pub fn unused() -> Lent {
     LIMITS.map(|limit| (0..limit).map(before).collect())
 }
 
-/// All that is lent for a writing and a forecast, and the prefix that is asked for.
+/// All that is lent for a writing, a forecast and a policy, and the prefix that is asked for.
 #[derive(Clone, PartialEq, Eq)]
 pub struct Question {
     pub counts: Counts,
@@ -23,10 +23,11 @@ pub struct Question {
     pub out: Vec<u8>,
     pub early: Vec<u16>,
     pub late: Vec<u16>,
+    pub policy: Vec<u8>,
 }
 
 impl Question {
-    /// The tables of a snapshot, with room enough for every answer.
+    /// The tables of a snapshot, with room enough for every answer and the policy that is the end record alone.
     pub fn of(snapshot: &Snapshot) -> Question {
         let mut lent = unused();
         tables::fill(snapshot, &mut lent);
@@ -38,6 +39,7 @@ impl Question {
             out: (0..room).map(|place| before(place) as u8).collect(),
             early: (0..AREA + 1).map(|place| before(place) as u16).collect(),
             late: (0..AREA + 2).map(|place| before(place + 100) as u16).collect(),
+            policy: vec![6, 0, 0, 0, 0],
         }
     }
 
@@ -61,6 +63,15 @@ impl Question {
         let number = calls::forecast(self.numbers(), &given.lent, self.prefix, &mut given.early, &mut given.late);
         let wanted_number = answer.unwrap_or_else(|no| 100 + no as usize);
         assert_eq!(number as usize, wanted_number, "{what}: forecast of prefix {}", self.prefix);
+        self.compare(what, answer.err(), &wanted, &given)
+    }
+
+    /// The same of a policy and all tables.
+    pub fn ask_policy(&self, what: &str) -> Option<No> {
+        let (mut wanted, mut given) = (self.clone(), self.clone());
+        let answer = tables::policy(&self.policy, self.counts, &mut wanted.lent);
+        let number = calls::policy(&self.policy, self.numbers(), &mut given.lent);
+        assert_eq!(number, answer.err().map_or(0, |no| no as u32), "{what}: policy");
         self.compare(what, answer.err(), &wanted, &given)
     }
 
