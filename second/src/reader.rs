@@ -31,6 +31,21 @@ pub fn in_records(bytes: &[u8], mut next: impl FnMut(&[u8]) -> Result<(usize, bo
     Ok(())
 }
 
+/// The kind and the body of the record at the head of `rest`, after the checks that every record has before its values,
+/// by what the file's own kinds are and where they may stand.
+pub fn opened(
+    rest: &[u8],
+    body_length: impl Fn(u8) -> Option<usize>,
+    may_stand: impl Fn(u8) -> bool,
+    is_full: impl Fn(u8) -> bool,
+) -> Result<(u8, &[u8]), No> {
+    let &kind = rest.first().ok_or(No::Cut)?;
+    let body = body_length(kind).ok_or(No::Kind)?;
+    check(may_stand(kind), No::Place)?;
+    check(!is_full(kind), No::Full)?;
+    Ok((kind, rest.get(1..1 + body).ok_or(No::Cut)?))
+}
+
 /// What has been read so far.
 #[derive(Default)]
 struct Reading {
@@ -44,17 +59,13 @@ struct Reading {
 impl Reading {
     /// The record at the head of `rest` and its length, if all checks let it pass.
     fn judge(&self, rest: &[u8]) -> Result<(Record, usize), No> {
-        let &kind = rest.first().ok_or(No::Cut)?;
-        let body = body_length(kind).ok_or(No::Kind)?;
-        check(self.may_stand(kind), No::Place)?;
-        check(!self.is_full(kind), No::Full)?;
-        let length = 1 + body;
-        let record = decode(kind, rest.get(1..length).ok_or(No::Cut)?);
+        let (kind, body) = opened(rest, body_length, |kind| self.may_stand(kind), |kind| self.is_full(kind))?;
+        let record = decode(kind, body);
         check(self.in_range(&record), No::Field)?;
         check(self.is_due(&record), No::Order)?;
         check(!self.is_twin(&record), No::Twin)?;
         check(self.counts(&record), No::Count)?;
-        Ok((record, length))
+        Ok((record, 1 + body.len()))
     }
 
     fn pairs(&self) -> usize {

@@ -169,18 +169,24 @@ static void sessions_rise(void) {
     on_p5_refused("a router that falls", falling_router, sizeof falling_router, 206);
 }
 
+/* What is made so far is sound with an end record, and changes nothing in P5; then it goes on from here. */
+static void on_p5_sound_so_far(const char *what) {
+    size_t length = making.length;
+    uint32_t records = making.records;
+    make_end(&making);
+    policy_applied(what, p5, P5_LENGTH, making.bytes, making.length, P5_LENGTH, p5);
+    making.length = length;
+    making.records = records;
+}
+
 /* Peers 1 to 64 of router 0, which P5 does not have: all of its routes keep their 100. */
 static void sessions_up_to_the_limit(void) {
     make_policy(&making);
     for (uint32_t peer = 1; peer <= 64; peer++) {
         make_session(&making, 0, peer);
     }
+    on_p5_sound_so_far("64 sessions");
     size_t length = making.length;
-    uint32_t records = making.records;
-    make_end(&making);
-    policy_applied("64 sessions", p5, P5_LENGTH, making.bytes, making.length, P5_LENGTH, p5);
-    making.length = length;
-    making.records = records;
     make_session(&making, 0, 65);
     on_p5_refused("a 65th session", making.bytes, making.length, 208);
     on_p5_refused("a 65th session, cut", making.bytes, length + 1, 208);
@@ -194,12 +200,8 @@ static void clauses_up_to_the_limit(void) {
     for (uint32_t number = 0; number < 32; number++) {
         make_clause(&making, 1);
     }
+    on_p5_sound_so_far("32 clauses and MED 0");
     size_t length = making.length;
-    uint32_t records = making.records;
-    make_end(&making);
-    policy_applied("32 clauses and MED 0", p5, P5_LENGTH, making.bytes, making.length, P5_LENGTH, p5);
-    making.length = length;
-    making.records = records;
     make_as_clause(&making, 0, 1);
     on_p5_refused("a 33rd clause", making.bytes, making.length, 208);
     making.bytes[length] = 5;

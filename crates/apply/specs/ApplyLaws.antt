@@ -1,14 +1,13 @@
 -- The ways out of applying a policy, each with what it answers and leaves.
 use Prim.Native.Nat.{ℕ}
 use native.Mathlib.Omega.{arith}
-use mathlib.Core.Path.{_≡_, refl, sym, ap, _∙_, subst, subst₂}
+use mathlib.Core.Path.{_≡_, sym, ap, _∙_, subst, subst₂}
 use mathlib.Core.Logic.{⊎-elim}
 use mathlib.Core.List.{List, []}
 use lib.Dec.{T}
 use lib.Pow.{areBytes}
 use Rattle.refusal.specs.declared.Refusal.{Refusal}
 use Rattle.refusal.specs.Numbers.{refuses, gives}
-use Rattle.refusal.specs.NumbersLaws.{gives-refuses, same-refusal}
 use Rattle.snapshot.specs.declared.Counts.{Counts}
 use Rattle.snapshot.specs.Ranges.{none}
 use Rattle.snapshot.specs.Format.{Snapshot}
@@ -33,16 +32,8 @@ use Rattle.sessions.specs.declared.Judged.{Judged}
 use Rattle.sessions.specs.declared.Judged.the-variants as judged
 use Rattle.sessions.specs.Sessions.{saidOf}
 use Rattle.sessions.specs.Sessions as sessions
+use Rattle.sessions.specs.Theorems.{read-accepted, read-refused}
 use Rattle.apply.specs.Applying.{left, Applies, room, unheld, read}
-
--- what the file's judgement tells of reading it
-judged-accepted : (a : AnswerOf Policy) {j : Judged} → j ≡ judged.Accepted → sessions.said j ≡ saidOf a → (policy : Policy) × (a ≡ accepted policy)
-judged-accepted (accepted policy) is e = (policy, refl)
-judged-accepted (refused r at) is e = absurd (gives-refuses r at [] (sym (ap sessions.said is) ∙ e))
-
-judged-refused : (a : AnswerOf Policy) {j : Judged} {r : Refusal} {at : ℕ} → j ≡ judged.Refused r at → sessions.said j ≡ saidOf a → a ≡ refused r at
-judged-refused (accepted policy) {r = r} {at = at} is e = absurd (gives-refuses r at [] (sym e ∙ ap sessions.said is))
-judged-refused (refused q place) {r = r} {at = at} is e = same-refusal refused q r place at (sym e ∙ ap sessions.said is)
 
 module _ (counts : Counts) (t : Tables) (bs : List ℕ) where
   -- refused before the file is looked at
@@ -59,7 +50,7 @@ module _ (counts : Counts) (t : Tables) (bs : List ℕ) where
     -- the file is refused
     pub applies-refused : {j : Judged} {r : Refusal} {at : ℕ} → j ≡ judged.Refused r at → sessions.said j ≡ saidOf (reading bs) → Applies counts t bs (refuses r at) t
     applies-refused {j} {r} {at} is e =
-        subst (λ (a : AnswerOf Policy). Applies counts t bs (saidOf a) (left a s t)) (judged-refused (reading bs) is e)
+        subst (λ (a : AnswerOf Policy). Applies counts t bs (saidOf a) (left a s t)) (read-refused (reading bs) r at (sym (ap sessions.said is) ∙ e))
         (read enough s (holding .valid) (holding .held))
 
     rows-has : Has (counts .routes) (t .rows)
@@ -101,7 +92,7 @@ module _ (counts : Counts) (t : Tables) (bs : List ℕ) where
         (seen (t .rows .router) (t .rows .asn) (t .rows .preference) (t .rows .path) (t .rows .mark) (t .rows .med) (t .rows .peer))
         → Applies counts t bs (gives []) (withRows t (columns (t .rows .router) (t .rows .asn) preference (t .rows .path) (t .rows .origin) mark med (t .rows .nid) (t .rows .peer)))
     applies-done bytes {j} {preference} {mark} {med} is e p =
-        let (policy, read-is) = judged-accepted (reading bs) is e in
+        let (policy, read-is) = read-accepted (reading bs) (sym (ap sessions.said is) ∙ e) in
         let (written, good) = accepts bs policy bytes .0 read-is in
         let walk : sessionsFrom bs 0 ≡ policy = ap (λ (l : List ℕ). sessionsFrom l 0) written ∙ walked policy good in
         let address : ℕ → ℕ = prefixField (t .address) (t .routes) (counts .prefixes) in

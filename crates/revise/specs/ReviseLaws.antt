@@ -46,18 +46,10 @@ use Rattle.apply.specs.Applying as applying
 use Rattle.apply.specs.Applying.{Applies, left}
 use Rattle.apply.specs.Theorems.{same}
 use Rattle.sessions.specs.Sessions.{saidOf}
+use Rattle.sessions.specs.Theorems.{read-accepted, read-refused}
 use Rattle.revise.specs.Revising.{ofSnapshot, ofPolicy, refuses, answerTo, leftBy, revisedAnswer, revisedOut, Revises, Rewrites, AfterRead, unread, held}
 
 -- ---- the policy
-
--- what its answer tells of reading it
-policy-refused : (a : AnswerOf Policy) {r : Refusal} {at : ℕ} → numbers.refuses r at ≡ saidOf a → a ≡ refused r at
-policy-refused (accepted policy) {r} {at} e = absurd (gives-refuses r at [] (sym e))
-policy-refused (refused q place) {r} {at} e = same-refusal refused q r place at (sym e)
-
-policy-accepted : (a : AnswerOf Policy) → gives [] ≡ saidOf a → (policy : Policy) × (a ≡ accepted policy)
-policy-accepted (accepted policy) e = (policy, refl)
-policy-accepted (refused q place) e = absurd (gives-refuses q place [] e)
 
 module _ (counts : Counts) (t u : Tables) (ps out : List ℕ) (a : Applied) (applies : Applies counts t ps (applying.said a) u)
     (s : Snapshot) (enough : T (none (short t))) (valid : Valid s) (held : Held counts t s) where
@@ -68,14 +60,14 @@ module _ (counts : Counts) (t u : Tables) (ps out : List ℕ) (a : Applied) (app
   -- it is refused
   pub rewrites-refused : {r : Refusal} {at : ℕ} → a ≡ applied.Refused r at → Revises (accepted s) (policies.reading ps) out (refuses ofPolicy r at) out
   rewrites-refused {r} {at} is =
-      let e = policy-refused (policies.reading ps) {r = r} {at = at} (sym (ap applying.said is) ∙ read-so .0) in
+      let e = read-refused (policies.reading ps) r at (sym (ap applying.said is) ∙ read-so .0) in
       (sym (ap (answerTo (accepted s)) e), sym (ap (λ (p : AnswerOf Policy). leftBy (accepted s) p out) e))
 
   -- the snapshot is rewritten: it is written
   pub rewrites-done : T (areBytes ps) → a ≡ applied.Rewritten → (w : Write) {after : List ℕ} → Writes counts u out (writing.said w) after → length (encode s) ≤ length out
       → ((n : ℕ) × (w ≡ write.Written n)) × Revises (accepted s) (policies.reading ps) out (gives []) after
   rewrites-done bytes is w {after} writes fits =
-      let (policy, e) = policy-accepted (policies.reading ps) (sym (ap applying.said is) ∙ read-so .0) in
+      let (policy, e) = read-accepted (policies.reading ps) (sym (ap applying.said is) ∙ read-so .0) in
       let good : rules.Valid policy = theorems.accepts ps policy bytes .0 e .1 in
       let made : Snapshot = rewritten policy s in
       let has : Room t = has-room t enough in

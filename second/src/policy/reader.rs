@@ -2,7 +2,7 @@
 
 use crate::policy::record::{body_length, decode, Record};
 use crate::policy::{Clause, Fits, Policy, Session, CLAUSES, LAST_CLAUSE_AS, SESSIONS};
-use crate::reader::{check, in_records, prefix_in_range};
+use crate::reader::{check, in_records, opened, prefix_in_range};
 use crate::snapshot::{No, Refusal};
 
 /// The policy of these bytes, or the first no with its place.
@@ -26,16 +26,12 @@ struct Reading {
 impl Reading {
     /// The record at the head of `rest` and its length, if all checks let it pass.
     fn judge(&self, rest: &[u8]) -> Result<(Record, usize), No> {
-        let &kind = rest.first().ok_or(No::Cut)?;
-        let body = body_length(kind).ok_or(No::Kind)?;
-        check(self.may_stand(kind), No::Place)?;
-        check(!self.is_full(kind), No::Full)?;
-        let length = 1 + body;
-        let record = decode(kind, rest.get(1..length).ok_or(No::Cut)?);
+        let (kind, body) = opened(rest, body_length, |kind| self.may_stand(kind), |kind| self.is_full(kind))?;
+        let record = decode(kind, body);
         check(in_range(&record), No::Field)?;
         check(self.rises(&record), No::Order)?;
         check(self.counts(&record), No::Count)?;
-        Ok((record, length))
+        Ok((record, 1 + body.len()))
     }
 
     /// Clauses stand in a session; kind 5 as its first, which is to say once and before the clauses.
