@@ -11,7 +11,7 @@ use Rattle.refusal.specs.Numbers.{refuses, gives}
 use Rattle.snapshot.specs.declared.Counts.{Counts}
 use Rattle.snapshot.specs.Ranges.{none}
 use Rattle.snapshot.specs.Format.{Snapshot}
-use Rattle.snapshot.specs.Reading.{AnswerOf, accepted, refused}
+use Rattle.snapshot.specs.Reading.{AnswerOf}
 use Rattle.snapshot.specs.Tables.{Columns, columns, Tables, short, filled, Room}
 use Rattle.snapshot.specs.TablesLaws.{has-room}
 use Rattle.tables.specs.declared.Verdict.{Verdict}

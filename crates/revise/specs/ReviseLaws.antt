@@ -13,13 +13,12 @@ use mir.Facts.{T-not}
 use Rattle.refusal.specs.declared.Refusal.{Refusal}
 use Rattle.refusal.specs.declared.Refusal.the-variants as refusal
 use Rattle.refusal.specs.Numbers.{Said, gives}
-use Rattle.refusal.specs.Numbers as numbers
-use Rattle.refusal.specs.NumbersLaws.{gives-refuses, same-refusal}
+use Rattle.refusal.specs.NumbersLaws.{gives-refuses}
 use Rattle.model.specs.RowLaws.{test-false}
 use Rattle.snapshot.specs.declared.Counts.{Counts}
 use Rattle.snapshot.specs.Ranges.{none, anyOf}
 use Rattle.snapshot.specs.Format.{Snapshot, encode, Valid}
-use Rattle.snapshot.specs.Reading.{Answer, AnswerOf, accepted, refused, reading}
+use Rattle.snapshot.specs.Reading.{Answer, AnswerOf, accepted, reading}
 use Rattle.snapshot.specs.Theorems as snapshots
 use Rattle.snapshot.specs.Tables.{Tables, short, filled, Held, Room}
 use Rattle.snapshot.specs.TablesLaws.{has-room, room-enough}
