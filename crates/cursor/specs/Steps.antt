@@ -1,5 +1,5 @@
 -- What the cursor's methods answer, as the definitions of the snapshot have it.
-use Prim.Native.Nat.{ℕ, _+_}
+use Prim.Native.Nat.{ℕ, _+_, _*_}
 use mathlib.Core.Path.{_≡_}
 use mathlib.Core.Bool.{Bool, false, cond, not, _&&_}
 use mathlib.Core.List.{List, [], _∷_, _++_}
@@ -8,9 +8,10 @@ use lib.Dec.{ltb, eqb}
 use Rattle.refusal.specs.declared.Refusal.the-variants.{Cut, Kind, Place, Full, Field, Order, Tail}
 use Rattle.refusal.specs.Numbers.{Said, refuses, gives}
 use Rattle.snapshot.specs.declared.Route.{Route}
+use Rattle.model.specs.Rows.{table}
 use Rattle.model.specs.Decision as model
 use Rattle.snapshot.specs.Ranges.{none, prefixTests, routeTests, rises, risesRoute}
-use Rattle.snapshot.specs.Records.{Form, forms, ofKind, known, sum, size, prefixForm, routeForm, endForm, valuesAt}
+use Rattle.snapshot.specs.Records.{Form, forms, ofKind, known, sum, size, routerForm, prefixForm, routeForm, endForm, valuesAt}
 use Rattle.snapshot.specs.Format.{Pair, Snapshot, routesIn, latest, Check, _else_, judged}
 use Rattle.snapshot.specs.Reading.{recordChecks, openRoutes, routeOf, prefixRoom, routeRoom, endValues}
 use Rattle.cursor.specs.declared.Finding.{Finding}
@@ -113,6 +114,14 @@ prefixNext k = recordChecks forms prefixForm (prefixRoom (k .prefixes)) (λ v. p
 -- the checks of a route record, by what is known of those before it
 unfoldable pub routeNext : Sofar → List ℕ → List Check
 routeNext k = recordChecks forms routeForm (routeRoom (k .prefixes) (k .inside) (k .routes)) (λ v. routeFaults k (routeOf v))
+
+-- the id of router i, where the first router's record stands at a place
+abbrev pub idAt : List ℕ → ℕ → ℕ → ℕ
+idAt bs first i = getD (valuesAt routerForm bs (first + size routerForm * i)) 1 0
+
+-- the ids of the first n routers, likewise
+abbrev pub idsAt : List ℕ → ℕ → ℕ → List ℕ
+idsAt bs first n = table n (idAt bs first)
 
 -- the prefix of the record at a place
 abbrev pub networkAt : List ℕ → ℕ → Network

@@ -1,19 +1,15 @@
 -- What the cursor's methods rest on: a record is judged by its opening, then by its values.
-use Prim.Native.Nat.{ℕ, zero, suc, _+_, _-_, _≤_, _<_}
-use native.Mathlib.Nat.{not-suc-le-zero}
-use native.Mathlib.Numerals.{add-one}
+use Prim.Native.Nat.{ℕ, suc, _+_, _-_, _≤_, _<_}
 use native.Mathlib.Omega.{arith}
 use native.Mathlib.Decide.{decLe}
 use mathlib.Core.Path.{_≡_, refl, sym, ap, ap₂, _∙_, subst, fun-ext}
 use mathlib.Core.Bool.{Bool, true, false, cond, not, _||_}
 use mathlib.Core.List.{List, [], _∷_, _++_}
-use lib.ListN.{length, getD, take, drop}
-use lib.Seq.{take-suc}
+use lib.ListN.{length, getD, drop}
 use lib.Dec.{leb, ltb, eqb, ltb→lt, eqb→eq}
-use borrow.Author.Tests.{ne-eqb, eq-eqb, le-leb, lt-leb, lt-ltb, le-ltb}
+use borrow.Author.Tests.{le-leb, lt-leb, lt-ltb, le-ltb}
 use Rattle.refusal.specs.declared.Refusal.{Refusal}
 use Rattle.refusal.specs.declared.Refusal.the-variants.{Cut, Kind, Place, Full, Field, Order}
-use Rattle.model.specs.Rows.{some}
 use Rattle.snapshot.specs.Limits.{mostPrefixes, mostInPrefix, mostRoutes}
 use Rattle.snapshot.specs.Ranges.{none, prefixTests, routeTests}
 use Rattle.snapshot.specs.Records.{Form, forms, ofKind, sum, size, known, prefixForm, routeForm, endForm, valuesAt}
@@ -27,32 +23,6 @@ use Rattle.cursor.specs.declared.Body.{Body}
 use Rattle.cursor.specs.declared.Body.the-variants.{Bytes, Refused}
 use Rattle.cursor.specs.declared.Sofar.{Sofar}
 use Rattle.cursor.specs.Steps.{finding, bodyOf, bodyLength, openingChecks, bodyChecks, openingBy, endBy, prefixNext, routeNext, Tells}
-
--- ---- an id among those given before
-
-some-snoc : (test : ℕ → Bool) (xs : List ℕ) (x : ℕ) → some test xs ≡ false → test x ≡ false → some test (xs ++ (x ∷ [])) ≡ false
-some-snoc test [] x e f = rw f
-some-snoc test (y ∷ xs) x e f = go (test y) e (some-snoc test xs x)
-  where
-    go : (b : Bool) → (b || some test xs) ≡ false → (some test xs ≡ false → test x ≡ false → some test (xs ++ (x ∷ [])) ≡ false)
-        → (b || some test (xs ++ (x ∷ []))) ≡ false
-    go true e ih = e
-    go false e ih = ih e f
-
-pub twin-more : (id : ℕ) (ids : List ℕ) (k : ℕ) → k < length ids → some (eqb id) (take k ids) ≡ false → (id ≡ getD ids k 0 → ⊥) → some (eqb id) (take (k + 1) ids) ≡ false
-twin-more id ids k h e n =
-    ap (λ (m : ℕ). some (eqb id) (take m ids)) (add-one k) ∙ ap (some (eqb id)) (take-suc ids k 0 h)
-    ∙ some-snoc (eqb id) (take k ids) (getD ids k 0) e (ne-eqb id (getD ids k 0) n)
-
-pub twin-found : (id : ℕ) (ids : List ℕ) (given k : ℕ) → k < given → k < length ids → id ≡ getD ids k 0 → some (eqb id) (take given ids) ≡ true
-twin-found id [] given k h l e = absurd (not-suc-le-zero l)
-twin-found id (x ∷ ids) zero k h l e = absurd (not-suc-le-zero h)
-twin-found id (x ∷ ids) (suc given) zero h l e = ap (λ (b : Bool). b || some (eqb id) (take given ids)) (eq-eqb id x e)
-twin-found id (x ∷ ids) (suc given) (suc k) h l e = later (eqb id x) (twin-found id ids given k (omega arith) (omega arith) e)
-  where
-    later : (b : Bool) → some (eqb id) (take given ids) ≡ true → (b || some (eqb id) (take given ids)) ≡ true
-    later true e = refl
-    later false e = e
 
 -- ---- findings
 

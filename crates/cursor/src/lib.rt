@@ -4,12 +4,12 @@
 ghost use mathlib.Core.Path.{_≡_};
 ghost use mathlib.Core.Bool.{cond};
 ghost use mathlib.Core.List.{[], _∷_};
-ghost use Prim.Native.Nat.{_+_, _≤_};
+ghost use Prim.Native.Nat.{_+_, _*_, _≤_};
 ghost use lib.Dec.{eqb};
-ghost use lib.ListN.{length, getD, take, drop};
+ghost use lib.ListN.{length, getD, drop};
 ghost use Rattle.model.specs.Rows.{some};
 ghost use Rattle.snapshot.specs.Plain.{routeIs};
-ghost use Rattle.snapshot.specs.Records.{forms, countForm, routerForm, distanceForm, prefixForm, routeForm, valuesAt};
+ghost use Rattle.snapshot.specs.Records.{forms, countForm, routerForm, distanceForm, prefixForm, routeForm, size, valuesAt};
 ghost use Rattle.snapshot.specs.Format.{countChecks, routerChecks, distanceChecks, endChecks};
 ghost use Rattle.snapshot.specs.Reading.{countRecord, routerRecord, distanceRecord, endRecord};
 ghost use Rattle.cursor.specs.declared.Finding.the-variants.{Fault};
@@ -27,6 +27,8 @@ ghost use Rattle.cursor.specs.Steps.{
   routeFaults,
   prefixNext,
   routeNext,
+  idAt,
+  idsAt,
   networkAt,
   routeAt,
   took,
@@ -125,27 +127,41 @@ fn count_faults(n: u32) -> Finding
     check(!snapshot::count_bad(n), Refusal::Field, Finding::Clear)
 }
 
-// Whether an id is among the first `given` ones.
-fn twin(ids: &[u32], given: usize, id: u32) -> bool
-    requires { ⌜ given ≤ length (now ids) ⌝ }
-    ensures { λ r. ⌜ r ≡ some (eqb id) (take given (now (ids .entry))) ⌝ }
+// The id of router i, behind a kind byte and an index, where the first router's record stands at a place: all have one length.
+pub fn id_at(input: &[u8], first: usize, i: usize) -> u32
+    requires { ⌜ first + size routerForm * (i + 1) ≤ length (now input) ⌝ }
+    ensures { λ r. ⌜ r ≡ idAt (now (input .entry)) first i ⌝ }
 {
-    let mut k = 0;
-    while k < given {
-        if id == ids[k] {
-            return true;
-        }
-        k += 1;
-    }
-    false
+    wire::get32(input, first + snapshot::ROUTER_SIZE * i + 2)
 }
 
-fn router_faults(routers: u32, ids: &[u32], given: usize, index: u32, id: u32) -> Finding
-    requires { ⌜ given ≤ length (now ids) ⌝ }
-    ensures { λ r. ⌜ r ≡ finding (routerChecks routers (take given (now (ids .entry))) index id) ⌝ }
+// Whether an id is one of the first `given` ones, which are read where they stand in the input.
+fn twin(input: &[u8], first: usize, given: usize, id: u32) -> bool
+    requires { ⌜ first + size routerForm * given ≤ length (now input) ⌝ }
+    ensures { λ r. ⌜ r ≡ some (eqb id) (idsAt (now (input .entry)) first given) ⌝ }
+{
+    let mut found = false;
+    let mut i = 0;
+    while (i < given) & !found {
+        found = id == id_at(input, first, i);
+        i += 1;
+    }
+    found
+}
+
+fn router_faults(
+    input: &[u8],
+    routers: u32,
+    first: usize,
+    given: usize,
+    index: u32,
+    id: u32,
+) -> Finding
+    requires { ⌜ first + size routerForm * given ≤ length (now input) ⌝ }
+    ensures { λ r. ⌜ r ≡ finding (routerChecks routers (idsAt (now (input .entry)) first given) index id) ⌝ }
 {
     let field = !((routers <= index) | snapshot::id_bad(id));
-    let alone = !twin(ids, given, id);
+    let alone = !twin(input, first, given, id);
     check(
         field,
         Refusal::Field,
@@ -311,10 +327,10 @@ impl Cursor {
         }
     }
 
-    // Kind 2: the id of the router whose index is due, where `given` ids stand before it.
-    pub fn router(self, input: &[u8], routers: u32, ids: &[u32], given: usize) -> Step
-        requires { ⌜ (self .records ≤ self .at) × (given ≤ length (now ids)) ⌝ }
-        ensures { λ r. ⌜ stepSaid r ≡ judgedAt (self .at) (routerRecord routers (take given (now (ids .entry))) (drop (self .at) (now (input .entry))))
+    // Kind 2: the id of the router whose index is due, where `given` router records stand before it, from a place on.
+    pub fn router(self, input: &[u8], routers: u32, first: usize, given: usize) -> Step
+        requires { ⌜ (self .records ≤ self .at) × (self .at ≡ first + size routerForm * given) ⌝ }
+        ensures { λ r. ⌜ stepSaid r ≡ judgedAt (self .at) (routerRecord routers (idsAt (now (input .entry)) first given) (drop (self .at) (now (input .entry))))
             (took (after self routerForm) (getD (valuesAt routerForm (now (input .entry)) (self .at)) 1 0 ∷ [])) ⌝ }
     {
         let at = self.at;
@@ -322,7 +338,7 @@ impl Cursor {
             Finding::Fault(f) => Step::Refused(f, at),
             Finding::Clear => {
                 let id = wire::get32(input, at + 2);
-                match router_faults(routers, ids, given, wire::get8(input, at + 1), id) {
+                match router_faults(input, routers, first, given, wire::get8(input, at + 1), id) {
                     Finding::Fault(f) => Step::Refused(f, at),
                     Finding::Clear => Step::Took(self.past(snapshot::ROUTER_SIZE), id),
                 }

@@ -9,14 +9,15 @@ use Rattle.wire.specs.Numbers.{numberAt}
 use Rattle.model.specs.Rows.{table}
 use Rattle.model.specs.Decision.{Route}
 use Rattle.snapshot.specs.Limits.{mostRouters, stride, mostRoutes}
-use Rattle.snapshot.specs.Records.{prefixForm, routeForm, size, valuesAt}
+use Rattle.snapshot.specs.Records.{countForm, prefixForm, routeForm, size, valuesAt}
 use Rattle.snapshot.specs.Format.{Prefix, pairsBefore}
 use Rattle.snapshot.specs.Reading.{routeOf}
 use Rattle.snapshot.specs.Tables.{Columns, Tables, Wide, used, putRoutes, allRoutes}
+use Rattle.cursor.specs.Steps.{idsAt}
 
--- the ids of the first n routers
+-- the ids of the first n routers, whose records stand behind the count record
 abbrev pub idsIn : List ℕ → ℕ → List ℕ
-idsIn bs n = table n (λ i. numberAt 4 bs (6 * i + 4))
+idsIn bs = idsAt bs (size countForm)
 
 -- the distance from one of n routers to another, 0 from one to itself
 abbrev pub distanceIn : List ℕ → ℕ → ℕ → ℕ → ℕ

@@ -27,6 +27,7 @@ use Rattle.snapshot.specs.PairsLaws.{pairs-length, pair-two, pair-of}
 use Rattle.snapshot.specs.PlaceLaws.{kind-at}
 use Rattle.snapshot.specs.WrittenLaws.{routers-size, distances-size, routes-size, encode-size}
 use Rattle.snapshot.specs.Tables.{Tables, filled, used, putDistances}
+use Rattle.cursor.specs.Steps.{idAt}
 use Rattle.fill.specs.Fill.{idsIn, distanceIn, entryIn, behindDistances, routesFrom, prefixWith, prefixesFrom, filledFrom, Spans}
 
 -- each member of a list is good
@@ -97,7 +98,7 @@ module _ (s : Snapshot) (v : Valid s) where
       (distances-size (pairs n) (s .distances) (let q = square in omega arith) ∙ ap (λ (k : ℕ). 7 * k) (v .square))
 
   -- an id stands at its place
-  id-at : (i : ℕ) → i < n → numberAt 4 (encode s) (6 * i + 4) ≡ getD (s .ids) i 0
+  id-at : (i : ℕ) → i < n → idAt (encode s) (size countForm) i ≡ getD (s .ids) i 0
   id-at i l =
       let x : ℕ = getD (s .ids) i 0 in
       let rest : List ℕ = routersBytes (suc i) (drop (suc i) (s .ids)) ++ second in
@@ -107,8 +108,7 @@ module _ (s : Snapshot) (v : Valid s) where
       let small : x < 256 ^ 4 = each-at GoodId [] (s .ids) 0 (v .ids) i l .1 .fits in
       let f = few in
       let fit : Fits (routerForm .widths) (i ∷ x ∷ []) = (omega arith, (small, tt)) in
-      ap (numberAt 4 (encode s)) (let e : 6 * i + 4 ≡ 2 + 6 * i + 2 = omega arith in e) ∙ sym (number-drop 4 (2 + 6 * i) (encode s) 2)
-      ∙ ap (λ (l : List ℕ). numberAt 4 l 2) here
+      sym (number-drop 4 (2 + 6 * i) (encode s) 2) ∙ ap (λ (l : List ℕ). numberAt 4 l 2) here
       ∙ ap (λ (l : List ℕ). getD l 1 0) (values-written routerForm (i ∷ x ∷ []) rest fit)
 
   -- a distance stands at its place
@@ -135,7 +135,7 @@ module _ (s : Snapshot) (v : Valid s) where
 
   ids-are : idsIn (encode s) n ≡ s .ids
   ids-are =
-      let f : ℕ → ℕ = λ i. numberAt 4 (encode s) (6 * i + 4) in
+      let f = idAt (encode s) (size countForm) in
       let l = table-length n f in
       ext-getD 0 (idsIn (encode s) n) (s .ids) l (λ i h. let m : i < n = omega arith in table-at f 0 n i m ∙ id-at i m)
 

@@ -11,17 +11,17 @@ use lib.ListN.{length, getD, set, length-map, length-append}
 use lib.Seq.{sets, length-sets, ext-getD}
 use lib.Dec.{leb, ltb, eqb}
 use borrow.Author.Tests.{lt-ltb, le-ltb, lt-leb, le-leb, leb-true}
-use Rattle.wire.specs.Numbers.{numberAt}
 use Rattle.model.specs.Rows.{table}
 use Rattle.model.specs.RowLaws.{both, table-length, table-at, table-snoc}
 use Rattle.model.specs.LoopLaws.{Stored, stored, stored-next, stored-skip}
 use Rattle.model.specs.Decision.{Route}
 use Rattle.snapshot.specs.Limits.{stride, mostRoutes}
-use Rattle.snapshot.specs.Records.{prefixForm, routeForm, valuesAt}
+use Rattle.snapshot.specs.Records.{countForm, prefixForm, routeForm, size, valuesAt}
 use Rattle.snapshot.specs.Format.{Prefix, routesIn}
 use Rattle.snapshot.specs.ChecksLaws.{length-snoc, routesIn-append}
 use Rattle.snapshot.specs.Reading.{routeOf}
 use Rattle.snapshot.specs.Tables.{Columns, Tables, tables, used, putRoutes, allRoutes, Wide}
+use Rattle.cursor.specs.Steps.{idAt}
 use Rattle.fill.specs.Fill.{idsIn, distanceIn, entryIn, behindDistances, filledFrom, isRoute, routesFrom, prefixWith, prefixesFrom, Lists, lists, putPrefixes, WideLists}
 use Rattle.model.specs.ColumnLaws.{sets-append}
 use Rattle.snapshot.specs.TablesLaws.{length-all, all-append}
@@ -46,9 +46,9 @@ module _ {bs : List ℕ} {n : ℕ} {ids₀ : List ℕ} where
     pub ids-long : length ids ≡ length ids₀
     ids-long = ap length (s .put) ∙ length-sets ids₀ 0 (idsIn bs i)
 
-    pub ids-next : {v : ℕ} → i < n → v ≡ numberAt 4 bs (6 * i + 4) → Ids bs n ids₀ (i + 1) (set ids i v)
+    pub ids-next : {v : ℕ} → i < n → v ≡ idAt bs (size countForm) i → Ids bs n ids₀ (i + 1) (set ids i v)
     ids-next {v} l e =
-        let f : ℕ → ℕ = λ i. numberAt 4 bs (6 * i + 4) in
+        let f = idAt bs (size countForm) in
         let long : i ≡ 0 + length (idsIn bs i) = (let z : i ≡ 0 + i = omega arith in z) ∙ ap (λ (k : ℕ). 0 + k) (sym (table-length i f)) in
         record {
           within = omega arith;

@@ -15,9 +15,6 @@ ghost use Rattle.fill.specs.Fill.{idsIn, distanceIn, entryIn, behindDist
 use cursor::Network;
 use snapshot::Route;
 
-// Where the first router's id stands: behind the count record, a kind byte and an index.
-const FIRST_ID: usize = snapshot::COUNT_SIZE + 2;
-
 // How far behind the routers the first distance stands: the count record, a kind byte and a pair.
 const FIRST_DISTANCE: usize = snapshot::COUNT_SIZE + 3;
 
@@ -28,7 +25,7 @@ pub fn fill_ids(input: &[u8], n: usize, ids: &mut [u32])
 {
     let mut i = 0;
     while i < n {
-        ids[i] = wire::get32(input, snapshot::ROUTER_SIZE * i + FIRST_ID);
+        ids[i] = cursor::id_at(input, snapshot::COUNT_SIZE, i);
         i += 1;
     }
 }

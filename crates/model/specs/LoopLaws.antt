@@ -4,14 +4,16 @@ use Prim.Native.Nat.{ℕ, suc, _+_, _-_, _≤_, _<_, zero-le}
 use native.Mathlib.Nat.{sub-zero, not-suc-le-zero}
 use native.Mathlib.Numerals.{add-one}
 use native.Mathlib.Omega.{arith}
-use mathlib.Core.Path.{_≡_, refl, sym, _∙_}
-use mathlib.Core.Bool.{Bool, true, false, true≢false}
+use mathlib.Core.Path.{_≡_, refl, sym, ap, ap₂, _∙_, subst}
+use mathlib.Core.Bool.{Bool, true, false, not, _&&_, _||_, true≢false}
 use mathlib.Core.List.{List, [], _∷_}
 use lib.ListN.{length, getD, set, length-set}
 use lib.Seq.{getD-set-same, getD-set-other, ext-getD}
+use lib.Dec.{ltb}
 use borrow.Author.Count.{below-more}
-use Rattle.model.specs.Rows.{keep, span, table}
-use Rattle.model.specs.RowLaws.{table-length, table-at}
+use borrow.Author.Tests.{ltb-true, ltb-false, not-true, not-false}
+use Rattle.model.specs.Rows.{keep, some, span, table}
+use Rattle.model.specs.RowLaws.{by, both, some-append, some-snoc, table-length, table-at, table-append, table-snoc}
 
 -- the rows from i up to n
 abbrev pub rest : ℕ → ℕ → List ℕ
@@ -95,6 +97,45 @@ stored-end {d} {f} {n} {xs} s l =
     let e = table-length n f in
     let g = s .long in
     ext-getD d xs (table n f) (omega arith) (λ k m. s .done k (omega arith) ∙ sym (table-at f d n k (omega arith)))
+
+-- ---- a loop that looks at f k for each k below n, or until a test holds: whether it held for one below i
+pub record Looked (test : ℕ → Bool) (f : ℕ → ℕ) (n i : ℕ) (found : Bool) : Type 0 where
+  pub within : i ≤ n
+  pub same : found ≡ some test (table i f)
+
+module _ {test : ℕ → Bool} {f : ℕ → ℕ} {n : ℕ} where
+  pub looked : Looked test f n 0 false
+  looked = record { within = zero-le; same = refl }
+
+  module _ {i : ℕ} {found : Bool} (s : Looked test f n i found) where
+    pub looked-next : {b : Bool} → i < n → b ≡ test (f i) → Looked test f n (i + 1) (found || b)
+    looked-next {b} l e = record {
+      within = omega arith;
+      same = ap₂ _||_ (s .same) e ∙ sym (ap (some test) (table-snoc f i) ∙ some-snoc test (table i f) (f i)) ∙ ap (λ (k : ℕ). some test (table k f)) (sym (add-one i));
+    }
+
+    pub looked-end : n ≤ i → found ≡ some test (table n f)
+    looked-end l = s .same ∙ ap (λ (k : ℕ). some test (table k f)) (let w = s .within in let z : i ≡ n = omega arith in z)
+
+    -- one that goes on until it has found something: while it does,
+    pub looked-more : (ltb i n && not found) ≡ true → i < n
+    looked-more t = ltb-true i n (both (ltb i n) (not found) t .0)
+
+    pub looked-on : {b : Bool} → (ltb i n && not found) ≡ true → b ≡ test (f i) → Looked test f n (i + 1) b
+    looked-on {b} t e =
+        subst (λ (x : Bool). Looked test f n (i + 1) x) (ap (λ (x : Bool). x || b) (not-true found (both (ltb i n) (not found) t .1))) (looked-next (looked-more t) e)
+
+    looked-found : found ≡ true → found ≡ some test (table n f)
+    looked-found e =
+        let w : i ≤ n = s .within in
+        let rest = table (n - i) (λ k. f (i + k)) in
+        sym (ap (λ (k : ℕ). some test (table k f)) (let z : n ≡ i + (n - i) = omega arith in z) ∙ ap (some test) (table-append f i (n - i)) ∙ some-append test (table i f) rest
+        ∙ ap (λ (x : Bool). x || some test rest) (sym (s .same) ∙ e) ∙ sym e)
+
+    -- and when it no longer does
+    pub looked-over : (ltb i n && not found) ≡ false → found ≡ some test (table n f)
+    looked-over t =
+        by (ltb i n) (λ l. looked-found (not-false found (ap (λ (x : Bool). x && not found) (sym l) ∙ t))) (λ l. looked-end (ltb-false i n l))
 
 -- ---- a loop that brings each member up to date, in place, and says whether any moved
 pub record Moved (f : ℕ → ℕ) (n : ℕ) (xs₀ : List ℕ) (i : ℕ) (xs : List ℕ) (moved : Bool) : Type 0 where

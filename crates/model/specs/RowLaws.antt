@@ -180,6 +180,13 @@ keep-append test (q ∷ rows) more =
     let ih = keep-append test rows more in
     by (test q) (λ e. simp (e, ih)) (λ e. simp (e, ih))
 
+pub some-append : (test : ℕ → Bool) (rows more : List ℕ) → some test (rows ++ more) ≡ (some test rows || some test more)
+some-append test [] more = refl
+some-append test (p ∷ rows) more = let ih = some-append test rows more in by (test p) (λ e. rw e) (λ e. rw (e, ih))
+
+pub some-snoc : (test : ℕ → Bool) (rows : List ℕ) (p : ℕ) → some test (rows ++ (p ∷ [])) ≡ (some test rows || test p)
+some-snoc test rows p = some-append test rows (p ∷ []) ∙ by (test p) (λ e. rw e) (λ e. rw e)
+
 -- a test on what is kept is one test
 pub some-kept : (kept test : ℕ → Bool) (rows : List ℕ) → some test (keep kept rows) ≡ some (λ q. kept q && test q) rows
 some-kept kept test [] = refl

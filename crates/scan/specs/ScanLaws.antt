@@ -1,5 +1,5 @@
 -- How the first pass goes on: one law for each turn of its loops and each way out of them.
-use Prim.Native.Nat.{ℕ, suc, _+_, _-_, _≤_, _<_, zero-le}
+use Prim.Native.Nat.{ℕ, suc, _+_, _*_, _-_, _≤_, _<_, zero-le}
 use native.Mathlib.Numerals.{add-one}
 use native.Mathlib.Decide.{decLe}
 use native.Mathlib.Omega.{arith}
@@ -7,23 +7,23 @@ use mathlib.Core.Path.{_≡_, refl, sym, ap, _∙_, subst}
 use mathlib.Core.Logic.{_≢_}
 use mathlib.Core.Bool.{Bool, true, false, cond, not, _&&_}
 use mathlib.Core.List.{List, [], _∷_, _++_}
-use lib.ListN.{length, getD, take, drop, set, length-set, length-drop}
-use lib.Seq.{take-suc-set, length-take-le}
+use lib.ListN.{length, getD, drop, length-drop}
 use lib.Dec.{T, leb, eqb, leb→le, ltb→lt}
 use borrow.Author.Tests.{ne-eqb, lt-ltb, le-ltb}
 use Rattle.refusal.specs.declared.Refusal.{Refusal}
 use Rattle.refusal.specs.declared.Refusal.the-variants.{Tail}
 use Rattle.refusal.specs.Numbers.{Said, refuses, gives}
 use Rattle.refusal.specs.NumbersLaws.{same-refusal, gives-refuses}
+use Rattle.model.specs.RowLaws.{table-length, table-snoc}
 use Rattle.model.specs.Decision as model
 use Rattle.snapshot.specs.declared.Route.{Route}
-use Rattle.snapshot.specs.Limits.{mostRouters, mostPrefixes, mostInPrefix, mostRoutes}
+use Rattle.snapshot.specs.Limits.{mostPrefixes, mostInPrefix, mostRoutes}
 use Rattle.snapshot.specs.Ranges.{rises, risesRoute}
 use Rattle.snapshot.specs.Plain.{routeIs}
 use Rattle.snapshot.specs.Records.{forms, countForm, routerForm, distanceForm, prefixForm, routeForm, endForm, size, valuesAt}
 use Rattle.snapshot.specs.Format.{Snapshot, Prefix, Pair, pairs, row, rows, records, routesIn, latest, Check, Holds}
-use Rattle.snapshot.specs.Reading.{Answer, accepted, refused, unless, prefixExtra, prefixValues, prefixRecord, routeExtra, routeValues, routeRecord, endRecord, openRoutes, addRoute, withPrefixes, prefixOf, routeOf, tail, items, distanceRecord, distances, routerRecord, routers, countValues, countRecord, reading}
-use Rattle.snapshot.specs.ChecksLaws.{judged-cases, passed, count-range, length-snoc, latest-snoc, routesIn-append, routesIn-add, length-add, some-prefix}
+use Rattle.snapshot.specs.Reading.{Answer, accepted, refused, unless, prefixExtra, prefixValues, prefixRecord, routeExtra, routeValues, routeRecord, endRecord, openRoutes, addRoute, withPrefixes, prefixOf, routeOf, tail, items, distanceRecord, distances, routerRecord, routers, countRecord, reading}
+use Rattle.snapshot.specs.ChecksLaws.{judged-cases, passed, length-snoc, latest-snoc, routesIn-append, routesIn-add, length-add, some-prefix}
 use Rattle.snapshot.specs.PlaceLaws.{reading-count, routers-one, routers-none, distances-one, distances-none, items-one-prefix, items-one-route, items-last, tail-none, tail-some}
 use Rattle.snapshot.specs.PairsLaws.{due-row, due-equal, due-other, due-row-end, due-end}
 use Rattle.cursor.specs.declared.Cursor.{Cursor}
@@ -37,7 +37,7 @@ use Rattle.cursor.specs.declared.RouteStep.{RouteStep}
 use Rattle.cursor.specs.declared.RouteStep.the-variants as routeStep
 use Rattle.cursor.specs.declared.EndStep.{EndStep}
 use Rattle.cursor.specs.declared.EndStep.the-variants as endStep
-use Rattle.cursor.specs.Steps.{begin, after, due, prefixNext, routeNext, networkAt, routeAt, took, stepSaid, prefixSaid, routeSaid, endSaid, judgedAt, ending, lateBehind, Tells}
+use Rattle.cursor.specs.Steps.{begin, after, due, idAt, idsAt, prefixNext, routeNext, networkAt, routeAt, took, stepSaid, prefixSaid, routeSaid, endSaid, judgedAt, ending, lateBehind, Tells}
 use Rattle.cursor.specs.StepsLaws.{prefix-told, route-told}
 use Rattle.cursor.specs.Theorems.{step-tells, prefix-tells, route-tells, end-tells}
 use Rattle.scan.specs.declared.Read.{Read}
@@ -94,17 +94,15 @@ module _ (bs : List ℕ) where
       → reading bs ≡ refused r place
   count-stop is e = reading-count bs ∙ step-refused (countRecord bs) 0 (after begin countForm) countAt _ e is
 
-  pub count-next : {x : Step} {c : Cursor} {n : ℕ} (ids : List ℕ) → mostRouters ≤ length ids → x ≡ step.Took c n → stepSaid x ≡ stepOf (countRecord (drop 0 bs)) 0 (after begin countForm) countAt
-      → Routers bs n 0 ids c
+  pub count-next : {x : Step} {c : Cursor} {n : ℕ} → x ≡ step.Took c n → stepSaid x ≡ stepOf (countRecord (drop 0 bs)) 0 (after begin countForm) countAt
+      → Routers bs n (c .at) 0 c
   unfolding countRecord
-  count-next {c = c} {n = n} ids room taken e =
+  count-next {c = c} {n = n} taken e =
       let (h, at, is, go) = step-took (countRecord bs) 0 (after begin countForm) countAt
       (λ _. routers countAt countAt [] (size countForm) (drop (size countForm) bs)) e taken in
-      let (low, high) = count-range countAt (passed forms countForm [] countValues bs h .good .0) in
-      let few : n ≤ mostRouters = rw is high in
       record {
         within = zero-le;
-        room = omega arith;
+        place = omega arith;
         same = rw (at, is) (reading-count bs ∙ go ∙ ap (λ (m : ℕ). routers countAt m [] (size countForm) (drop (size countForm) bs)) (let z : countAt ≡ countAt - 0 = omega arith in z));
         records = rw at refl;
         low = rw at (omega arith);
@@ -112,37 +110,36 @@ module _ (bs : List ℕ) where
 
 -- ---- the routers
 
-module _ {bs : List ℕ} {n i : ℕ} {ids : List ℕ} {c : Cursor} (s : Routers bs n i ids c) where
+module _ {bs : List ℕ} {n first i : ℕ} {c : Cursor} (s : Routers bs n first i c) where
   abbrev routerChecksAt : List Check
-  routerChecksAt = routerRecord n (take i ids) (drop (c .at) bs)
+  routerChecksAt = routerRecord n (idsAt bs first i) (drop (c .at) bs)
 
-  abbrev idAt : ℕ
-  idAt = getD (valuesAt routerForm bs (c .at)) 1 0
+  abbrev idDue : ℕ
+  idDue = getD (valuesAt routerForm bs (c .at)) 1 0
 
   routers-now : i < n → reading bs ≡ unless routerChecksAt (c .at) λ _.
-      routers n (n - suc i) (take i ids ++ (idAt ∷ [])) (c .at + size routerForm) (drop (c .at + size routerForm) bs)
+      routers n (n - suc i) (idsAt bs first i ++ (idDue ∷ [])) (c .at + size routerForm) (drop (c .at + size routerForm) bs)
   routers-now l =
-      s .same ∙ ap (λ (m : ℕ). routers n m (take i ids) (c .at) (drop (c .at) bs)) (let z : n - i ≡ suc (n - suc i) = omega arith in z)
-      ∙ routers-one bs (c .at) n (n - suc i) (take i ids)
+      s .same ∙ ap (λ (m : ℕ). routers n m (idsAt bs first i) (c .at) (drop (c .at) bs)) (let z : n - i ≡ suc (n - suc i) = omega arith in z)
+      ∙ routers-one bs (c .at) n (n - suc i) (idsAt bs first i)
 
-  pub routers-stop : {x : Step} {r : Refusal} {place : ℕ} → i < n → x ≡ step.Refused r place → stepSaid x ≡ stepOf routerChecksAt (c .at) (after c routerForm) idAt → reading bs ≡ refused r place
-  routers-stop l is e = routers-now l ∙ step-refused routerChecksAt (c .at) (after c routerForm) idAt _ e is
+  pub routers-stop : {x : Step} {r : Refusal} {place : ℕ} → i < n → x ≡ step.Refused r place → stepSaid x ≡ stepOf routerChecksAt (c .at) (after c routerForm) idDue → reading bs ≡ refused r place
+  routers-stop l is e = routers-now l ∙ step-refused routerChecksAt (c .at) (after c routerForm) idDue _ e is
 
-  pub routers-next : {x : Step} {next : Cursor} {id : ℕ} → i < n → x ≡ step.Took next id → stepSaid x ≡ stepOf routerChecksAt (c .at) (after c routerForm) idAt
-      → Routers bs n (i + 1) (set ids i id) next
-  routers-next {next = next} {id = id} l taken e =
-      let (h, at, is, go) = step-took routerChecksAt (c .at) (after c routerForm) idAt
-      (λ _. routers n (n - suc i) (take i ids ++ (idAt ∷ [])) (c .at + size routerForm) (drop (c .at + size routerForm) bs)) e taken in
-      let room : n ≤ length ids = s .room in
-      let long = length-set ids i id in
-      let more : take (i + 1) (set ids i id) ≡ take i ids ++ (idAt ∷ []) =
-      ap (λ (m : ℕ). take m (set ids i id)) (add-one i) ∙ take-suc-set ids i id (omega arith) ∙ ap (λ (x : ℕ). take i ids ++ (x ∷ [])) is in
+  pub routers-next : {x : Step} {next : Cursor} {id : ℕ} → i < n → x ≡ step.Took next id → stepSaid x ≡ stepOf routerChecksAt (c .at) (after c routerForm) idDue
+      → Routers bs n first (i + 1) next
+  routers-next {next = next} l taken e =
+      let (h, at, is, go) = step-took routerChecksAt (c .at) (after c routerForm) idDue
+      (λ _. routers n (n - suc i) (idsAt bs first i ++ (idDue ∷ [])) (c .at + size routerForm) (drop (c .at + size routerForm) bs)) e taken in
+      let more : idsAt bs first (i + 1) ≡ idsAt bs first i ++ (idDue ∷ []) =
+      ap (idsAt bs first) (add-one i) ∙ table-snoc (idAt bs first) i ∙ ap (λ (k : ℕ). idsAt bs first i ++ (getD (valuesAt routerForm bs k) 1 0 ∷ [])) (sym (s .place)) in
       let left : n - (i + 1) ≡ n - suc i = omega arith in
+      let here : c .at ≡ first + 6 * i = s .place in
       let count : c .records ≡ 1 + i = s .records in
       let below : c .records ≤ c .at = s .low in
       record {
         within = omega arith;
-        room = omega arith;
+        place = rw at (omega arith);
         same = rw (at, more, left) (routers-now l ∙ go);
         records = rw at (omega arith);
         low = rw at (omega arith);
@@ -152,15 +149,14 @@ module _ {bs : List ℕ} {n i : ℕ} {ids : List ℕ} {c : Cursor} (s : Routers 
   routers-end l =
       let w : i ≤ n = s .within in
       let is : i ≡ n = omega arith in
-      let room : n ≤ length ids = s .room in
-      let long : length (take i ids) ≡ n = length-take-le i ids (omega arith) ∙ is in
+      let long : length (idsAt bs first i) ≡ n = table-length i (idAt bs first) ∙ is in
       let count : c .records ≡ 1 + i = s .records in
       record {
-        ids = take i ids;
+        ids = idsAt bs first i;
         ds = [];
         long = long;
-        same = s .same ∙ ap (λ (m : ℕ). routers n m (take i ids) (c .at) (drop (c .at) bs)) (let z : n - i ≡ 0 = omega arith in z)
-            ∙ routers-none bs (c .at) n (take i ids) ∙ ap (λ (m : ℕ). distances (pairs m) (take i ids) [] (c .at) (drop (c .at) bs)) long;
+        same = s .same ∙ ap (λ (m : ℕ). routers n m (idsAt bs first i) (c .at) (drop (c .at) bs)) (let z : n - i ≡ 0 = omega arith in z)
+            ∙ routers-none bs (c .at) n (idsAt bs first i) ∙ ap (λ (m : ℕ). distances (pairs m) (idsAt bs first i) [] (c .at) (drop (c .at) bs)) long;
         records = omega arith;
         low = s .low;
       }

@@ -3,8 +3,8 @@ ghost use mathlib.Core.Path.{_≡_};
 ghost use Prim.Native.Nat.{_+_, _<_};
 ghost use mathlib.Core.Logic.{_≢_};
 ghost use mathlib.Core.List.{[]};
-ghost use lib.ListN.{getD, replicate};
-ghost use Rattle.snapshot.specs.Limits.{mostRouters, mostPrefixes, mostInPrefix, mostRoutes};
+ghost use lib.ListN.{getD};
+ghost use Rattle.snapshot.specs.Limits.{mostPrefixes, mostInPrefix, mostRoutes};
 ghost use Rattle.snapshot.specs.Format.{pairs};
 ghost use Rattle.snapshot.specs.Reading.{reading};
 ghost use Rattle.scan.specs.Scan.{said, saidOf, told, Went, Routers, Distances, Rows, Items, morePrefix, moreRoute, Follows};
@@ -37,40 +37,26 @@ enum Item {
     Over(Read),
 }
 
-fn no_ids() -> [u32; 64]
-    ensures { λ r. ⌜ r ≡ replicate mostRouters 0 ⌝ }
-{
-    [0u32; 64]
-}
-
-// The routers, whose ids are copied so that each can be compared with those before it.
-fn routers_into(c: Cursor, input: &[u8], n: u32, ids: &mut [u32]) -> Section
-    requires { ⌜ Routers (now input) n 0 (now ids) c ⌝ }
+// The routers: each id is compared with those before it, which are read again where they stand.
+fn routers(c: Cursor, input: &[u8], n: u32) -> Section
+    requires { ⌜ Routers (now input) n (c .at) 0 c ⌝ }
     ensures { λ r. ⌜ Went (now (input .entry)) (Distances (now (input .entry)) n (pairs n)) r ⌝ }
 {
+    let first = c.at;
     let mut c = c;
     let mut i: usize = 0;
     while i < n as usize {
-        match c.router(input, n, ids, i) {
+        match c.router(input, n, first, i) {
             Step::Refused(r, at) => {
                 return Section::Refused(r, at);
             }
-            Step::Took(next, id) => {
-                ids[i] = id;
+            Step::Took(next, _) => {
                 c = next;
             }
         }
         i += 1;
     }
     Section::Done(c)
-}
-
-fn routers(c: Cursor, input: &[u8], n: u32) -> Section
-    requires { ⌜ Routers (now input) n 0 (replicate mostRouters 0) c ⌝ }
-    ensures { λ r. ⌜ Went (now (input .entry)) (Distances (now (input .entry)) n (pairs n)) r ⌝ }
-{
-    let mut ids = no_ids();
-    routers_into(c, input, n, &mut ids)
 }
 
 // The distances from one router to the others.

@@ -1,12 +1,11 @@
 -- Laws by which the loops of judging are proved: what a test that passed, or failed, says of the part that it judges.
 use Prim.Native.Nat.{ℕ, zero, suc, _+_, _-_, _^_, _≤_, _<_, zero-le}
 use native.Mathlib.Omega.{arith}
-use native.Mathlib.Numerals.{add-one}
-use mathlib.Core.Path.{_≡_, refl, sym, ap, ap₂, _∙_, subst}
+use mathlib.Core.Path.{_≡_, refl, sym, ap, _∙_, subst}
 use mathlib.Core.Bool.{Bool, true, false, not, _||_, true≢false, false≢true}
 use mathlib.Core.List.{List, []}
 use lib.ListN.{length}
-use lib.Dec.{T, eqb, leb, ltb}
+use lib.Dec.{T, eqb, ltb}
 use borrow.Author.Count.{below-none, below-more}
 use borrow.Author.Tests.{eq-eqb, ne-eqb, eqb-true, eqb-false, le-ltb, ltb-false, leb-false, not-true, not-false}
 use Rattle.model.specs.Rows.{some, table, column, start}
@@ -21,7 +20,7 @@ use Rattle.snapshot.specs.Format.{GoodId, GoodRoute, Each, latest, routeFields}
 use Rattle.snapshot.specs.Tables.{Columns, Tables}
 use Rattle.snapshot.specs.ChecksLaws.{count-range}
 use Rattle.tables.specs.Judging.{routeAt, routesAt, prefixAt, cell, lateAt, CellGood, RouteGood, PrefixGood, Below, InRange, Totalled, Decides}
-use Rattle.tables.specs.ListsLaws.{latest-table, each-below, below-each, none-table, some-more, table-none}
+use Rattle.tables.specs.ListsLaws.{latest-table, each-below, below-each, none-table, table-none}
 use Rattle.tables.specs.PartsLaws.{cell-zero, cell-range, cell-good}
 
 -- ---- a loop that judges each number below n in turn
@@ -49,27 +48,6 @@ module _ {P : ℕ → Type 0} {n : ℕ} where
 
   pub sofar-not : {i : ℕ} → i < n → (P i → ⊥) → Decides (Below n P) false
   sofar-not {i} l f = decides-not (λ h. f (h i l))
-
--- ---- a loop that looks at each number below n, whatever it finds
-
--- whether a test held for one below i
-pub record Looked (test : ℕ → Bool) (f : ℕ → ℕ) (n i : ℕ) (found : Bool) : Type 0 where
-  pub within : i ≤ n
-  pub same : found ≡ some test (table i f)
-
-module _ {test : ℕ → Bool} {f : ℕ → ℕ} {n : ℕ} where
-  pub looked : Looked test f n 0 false
-  looked = record { within = zero-le; same = refl }
-
-  module _ {i : ℕ} {found : Bool} (s : Looked test f n i found) where
-    pub looked-next : {b : Bool} → i < n → b ≡ test (f i) → Looked test f n (i + 1) (found || b)
-    looked-next {b} l e = record {
-      within = omega arith;
-      same = ap₂ _||_ (s .same) e ∙ sym (some-more test f i) ∙ ap (λ (k : ℕ). some test (table k f)) (sym (add-one i));
-    }
-
-    pub looked-end : n ≤ i → found ≡ some test (table n f)
-    looked-end l = s .same ∙ ap (λ (k : ℕ). some test (table k f)) (let w = s .within in let z : i ≡ n = omega arith in z)
 
 -- ---- tests
 

@@ -99,21 +99,6 @@ module _ (test : ℕ → Bool) (f : ℕ → ℕ) where
   some-table : (n k : ℕ) → k < n → test (f k) ≡ true → some test (table n f) ≡ true
   some-table n k l e = some-from 0 n k l (ap (λ (k : ℕ). test (f k)) (let z : 0 + k ≡ k = omega arith in z) ∙ e)
 
-  pub some-more : (n : ℕ) → some test (table (suc n) f) ≡ (some test (table n f) || test (f n))
-  some-more n = ap (some test) (table-snoc f n) ∙ last (table n f)
-    where
-      last : (xs : List ℕ) → some test (xs ++ (f n ∷ [])) ≡ (some test xs || test (f n))
-      last [] = or-nothing (test (f n))
-        where
-          or-nothing : (b : Bool) → (b || false) ≡ b
-          or-nothing true = refl
-          or-nothing false = refl
-      last (x ∷ xs) = ap (λ (b : Bool). test x || b) (last xs) ∙ sym (or-assoc (test x))
-        where
-          or-assoc : (a : Bool) → (a || some test xs || test (f n)) ≡ (a || (some test xs || test (f n)))
-          or-assoc true = refl
-          or-assoc false = refl
-
   pub table-none : (n : ℕ) → some test (table n f) ≡ false → Below n (λ k. test (f k) ≡ false)
   table-none n e k l = by (test (f k)) (λ t. absurd (false≢true (sym e ∙ some-table n k l t))) (λ t. t)
 

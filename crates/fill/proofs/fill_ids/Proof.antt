@@ -19,8 +19,6 @@ fill-ids-spec =
     Inv-loop
     μ-loop
     (λ c. ids-start)
-    (λ c. omega arith)
-    (λ c. omega arith)
     (λ c κs. omega arith)
     (λ c. search needs)
     (λ c. let l : tie.In-loop Inv-loop μ-loop = search needs in omega (arith, ids-long (l .before .loop .inv)))
@@ -28,7 +26,7 @@ fill-ids-spec =
     (λ c. omega arith)
     (λ c.
     let l : tie.In-loop Inv-loop μ-loop = search needs in
-    let g : tie.After-get32 Inv-loop μ-loop = search needs in
-    ids-next (l .before .loop .inv) (l .loop-test .taken) (g .get32 .ensures))
+    let g : tie.After-id-at Inv-loop μ-loop = search needs in
+    ids-next (l .before .loop .inv) (l .loop-test .taken) (g .id-at .ensures))
     (λ c. ids-long (c .before .loop .inv))
     (λ c. ids-end (c .before .loop .inv) (c .loop-test .left)))

@@ -3,9 +3,7 @@ use borrow.Author.Needs.{needs}
 use denote.Ref.{now}
 use mathlib.Core.Path.{sym, ap, _∙_, subst}
 use mathlib.Core.List.{[]}
-use lib.ListN.{replicate}
 use lib.Dec.{lit≤}
-use Rattle.snapshot.specs.Limits.{mostRouters}
 use Rattle.snapshot.specs.Format.{pairs}
 use Rattle.snapshot.specs.Reading.{reading}
 use Rattle.scan.specs.Scan.{said, saidOf, Went, Distances}
@@ -23,7 +21,7 @@ judge-spec =
     (λ c κs.
     let s : tie.Start = search needs in
     let t : tie.After-count = search needs in
-    count-next (now (s .args .input)) (replicate mostRouters 0) (lit≤ tt) (c .before .c .given .1) (t .count .ensures))
+    count-next (now (s .args .input)) (c .before .c .given .1) (t .count .ensures))
     (λ c. search needs)
     (λ c. search needs)
     (λ c κs.

@@ -4,7 +4,7 @@ use lib.Dec.{ltb}
 use borrow.Author.Needs.{needs}
 use Rattle.model.specs.Rows.{column}
 use Rattle.snapshot.specs.Limits.{farthest}
-use Rattle.tables.specs.JudgeLaws.{Looked, looked, looked-next, looked-end}
+use Rattle.model.specs.LoopLaws.{Looked, looked, looked-next, looked-end}
 use Rattle.tables.proofs.far.Statement.{statement}
 use Rattle.tables.proofs.far.Tie as tie
 

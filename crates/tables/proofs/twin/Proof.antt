@@ -4,7 +4,7 @@ use mathlib.Core.Path.{refl}
 use lib.Dec.{eqb}
 use borrow.Author.Needs.{needs}
 use Rattle.model.specs.Rows.{column}
-use Rattle.tables.specs.JudgeLaws.{Looked, looked, looked-next, looked-end}
+use Rattle.model.specs.LoopLaws.{Looked, looked, looked-next, looked-end}
 use Rattle.tables.proofs.twin.Statement.{statement}
 use Rattle.tables.proofs.twin.Tie as tie
 
