@@ -89,8 +89,9 @@ enum {
  *
  * The call takes no memory from the heap, keeps nothing from one call to the next and has no global state, so any
  * number of threads may call it at once, each with its own area. It always returns. Its working tables are on the
- * stack of the calling thread and take less than 32 KB of it (about 31 KB measured on x86-64). In a program that binds
- * the C library lazily, the dynamic linker takes about 3 KB more within the first call.
+ * stack of the calling thread and take less than 32 KB of it (31,272 bytes measured on x86-64; 29,096 where reading
+ * refuses the snapshot). In a program that binds the C library lazily, the dynamic linker takes about 3 KB more within
+ * the first call.
  */
 uint32_t barrierose_forecast(const uint8_t *snapshot, size_t snapshot_len, uint32_t prefix,
                              uint8_t *area, size_t area_len);
@@ -118,8 +119,8 @@ uint32_t barrierose_forecast(const uint8_t *snapshot, size_t snapshot_len, uint3
  *
  * The call takes no memory from the heap, keeps nothing from one call to the next and has no global state, so any
  * number of threads may call it at once, each with its own out. It always returns. Its working tables are on the stack
- * of the calling thread and take less than 60 KB of it (about 58 KB measured on x86-64). In a program that binds the C
- * library lazily, the dynamic linker takes about 3 KB more within the first call.
+ * of the calling thread and take less than 60 KB of it (57,640 bytes measured on x86-64). In a program that binds the
+ * C library lazily, the dynamic linker takes about 3 KB more within the first call.
  */
 uint32_t barrierose_policy(const uint8_t *snapshot, size_t snapshot_len, const uint8_t *policy, size_t policy_len,
                            uint8_t *out, size_t out_len);

@@ -115,6 +115,23 @@ static void a_prefix_that_does_not_rise(void) {
     }
 }
 
+/* Each of 64 routers with the id of each before it, and with one that a bit tells from that, in each byte in turn. */
+static void twins(void) {
+    make_network(&making, 64);
+    make_end(&making);
+    for (size_t later = 1; later < 64; later++) {
+        uint8_t own[4], *id = making.bytes + 4 + 6 * later;
+        memcpy(own, id, sizeof own);
+        for (size_t earlier = 0; earlier < later; earlier++) {
+            memcpy(id, making.bytes + 4 + 6 * earlier, sizeof own);
+            refused("the id of an earlier router", making.bytes, making.length, 0, 256, 107);
+            id[(earlier + later) % sizeof own] ^= 0x80;
+            refused("another id, and no prefix", making.bytes, making.length, 0, 256, 112);
+        }
+        memcpy(id, own, sizeof own);
+    }
+}
+
 static void full_of_prefixes(void) {
     make_network(&making, 1);
     for (uint32_t prefix = 0; prefix < 65; prefix++) {
@@ -201,6 +218,7 @@ int main(void) {
     values();
     cut_short();
     a_prefix_that_does_not_rise();
+    twins();
     full_of_prefixes();
     full_of_routes();
     followed();

@@ -11,8 +11,10 @@
 #include <string.h>
 #include <sys/mman.h>
 
-/* The most stack that a forecast may take, and that a policy may take, in bytes. */
+/* The most stack that a forecast may take, that one may take which reading refuses, and that a policy may take, in
+ * bytes. Within the second there is no room for a copy of the ids. */
 #define STACK_BOUND (32 * 1024)
+#define READING_STACK_BOUND (28 * 1024 + 512)
 #define POLICY_STACK_BOUND (60 * 1024)
 
 #define STACK_SIZE (512 * 1024)
@@ -43,6 +45,11 @@ static void *control(void *unused) {
 
 static void *call(void *unused) {
     given = barrierose_forecast(snapshot, length, prefix, area, sizeof area);
+    return unused;
+}
+
+static void *call_cut(void *unused) {
+    given = barrierose_forecast(snapshot, length - 1, 0, area, sizeof area);
     return unused;
 }
 
@@ -92,6 +99,13 @@ static size_t deepest_of_all(const char *name) {
     return most;
 }
 
+/* What the loaded snapshot takes that is read to its end and refused for want of its last byte. */
+static size_t deepest_of_reading(const char *name) {
+    size_t most = depth(call_cut);
+    check(given == BARRIEROSE_CUT, name);
+    return most;
+}
+
 /* What the longest policy takes that is applied to the loaded snapshot, or is refused for want of its last byte. */
 static size_t deepest_of_policy(const char *name) {
     make_longest_policy(&longest_policy);
@@ -114,14 +128,16 @@ int main(int count, char **names) {
         check(false, "mmap");
         return report();
     }
-    size_t own = depth(nothing), known = depth(control), most = 0, most_of_policy = 0;
+    size_t own = depth(nothing), known = depth(control), most = 0, most_of_reading = 0, most_of_policy = 0;
     check(own > 0 && known >= own + CONTROL - 1024 && known <= own + CONTROL + 1024, "the measuring itself");
     for (int number = 1; number < count; number++) {
         check(load(names[number]), names[number]);
         most = more(most, deepest_of_all(names[number]));
+        most_of_reading = more(most_of_reading, deepest_of_reading(names[number]));
         most_of_policy = more(most_of_policy, deepest_of_policy(names[number]));
     }
     within("a forecast", most, own, STACK_BOUND);
+    within("a forecast that reading refuses", most_of_reading, own, READING_STACK_BOUND);
     within("a policy", most_of_policy, own, POLICY_STACK_BOUND);
     return report();
 }

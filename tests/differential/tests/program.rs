@@ -82,6 +82,23 @@ fn longer_than_the_longest() {
     }
 }
 
+/// Each router of 64 with the id of the one before it, of the first, and of one between: refused at its own record.
+#[test]
+fn twins() {
+    let snapshot = random::random(1, "limits").expect("a kind");
+    let routers = snapshot.ids.len();
+    assert_eq!(routers, 64);
+    for later in 1..routers {
+        for earlier in [0, later / 2, later - 1] {
+            let mut snapshot = snapshot.clone();
+            snapshot.ids[later] = snapshot.ids[earlier];
+            let input = writer::write(&snapshot);
+            compare(&format!("router {later} with the id of router {earlier}"), &input, input.len());
+            assert_eq!(printed(&input), format!("refused 7 {}\n", 2 + 6 * later));
+        }
+    }
+}
+
 /// What document 01 says of inputs that hardly begin.
 #[test]
 fn next_to_nothing() {
