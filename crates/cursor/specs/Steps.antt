@@ -115,13 +115,17 @@ prefixNext k = recordChecks forms prefixForm (prefixRoom (k .prefixes)) (λ v. p
 unfoldable pub routeNext : Sofar → List ℕ → List Check
 routeNext k = recordChecks forms routeForm (routeRoom (k .prefixes) (k .inside) (k .routes)) (λ v. routeFaults k (routeOf v))
 
--- the id of router i, where the first router's record stands at a place
-abbrev pub idAt : List ℕ → ℕ → ℕ → ℕ
-idAt bs first i = getD (valuesAt routerForm bs (first + size routerForm * i)) 1 0
+-- the id of the router record at a place
+abbrev pub idAt : List ℕ → ℕ → ℕ
+idAt bs at = getD (valuesAt routerForm bs at) 1 0
 
--- the ids of the first n routers, likewise
+-- where the record of router i stands, if that of the first stands at a place
+abbrev pub routerPlace : ℕ → ℕ → ℕ
+routerPlace first i = first + size routerForm * i
+
+-- the ids of the first n routers, whose records stand from a place on
 abbrev pub idsAt : List ℕ → ℕ → ℕ → List ℕ
-idsAt bs first n = table n (idAt bs first)
+idsAt bs first n = table n (λ i. idAt bs (routerPlace first i))
 
 -- the prefix of the record at a place
 abbrev pub networkAt : List ℕ → ℕ → Network

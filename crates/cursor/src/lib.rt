@@ -4,12 +4,12 @@
 ghost use mathlib.Core.Path.{_≡_};
 ghost use mathlib.Core.Bool.{cond};
 ghost use mathlib.Core.List.{[], _∷_};
-ghost use Prim.Native.Nat.{_+_, _*_, _≤_};
+ghost use Prim.Native.Nat.{_+_, _≤_};
 ghost use lib.Dec.{eqb};
 ghost use lib.ListN.{length, getD, drop};
 ghost use Rattle.model.specs.Rows.{some};
 ghost use Rattle.snapshot.specs.Plain.{routeIs};
-ghost use Rattle.snapshot.specs.Records.{forms, countForm, routerForm, distanceForm, prefixForm, routeForm, size, valuesAt};
+ghost use Rattle.snapshot.specs.Records.{forms, countForm, routerForm, distanceForm, prefixForm, routeForm, valuesAt};
 ghost use Rattle.snapshot.specs.Format.{countChecks, routerChecks, distanceChecks, endChecks};
 ghost use Rattle.snapshot.specs.Reading.{countRecord, routerRecord, distanceRecord, endRecord};
 ghost use Rattle.cursor.specs.declared.Finding.the-variants.{Fault};
@@ -28,6 +28,7 @@ ghost use Rattle.cursor.specs.Steps.{
   prefixNext,
   routeNext,
   idAt,
+  routerPlace,
   idsAt,
   networkAt,
   routeAt,
@@ -127,23 +128,15 @@ fn count_faults(n: u32) -> Finding
     check(!snapshot::count_bad(n), Refusal::Field, Finding::Clear)
 }
 
-// The id of router i, behind a kind byte and an index, where the first router's record stands at a place: all have one length.
-pub fn id_at(input: &[u8], first: usize, i: usize) -> u32
-    requires { ⌜ first + size routerForm * (i + 1) ≤ length (now input) ⌝ }
-    ensures { λ r. ⌜ r ≡ idAt (now (input .entry)) first i ⌝ }
-{
-    wire::get32(input, first + snapshot::ROUTER_SIZE * i + 2)
-}
-
 // Whether an id is one of the first `given` ones, which are read where they stand in the input.
 fn twin(input: &[u8], first: usize, given: usize, id: u32) -> bool
-    requires { ⌜ first + size routerForm * given ≤ length (now input) ⌝ }
+    requires { ⌜ routerPlace first given ≤ length (now input) ⌝ }
     ensures { λ r. ⌜ r ≡ some (eqb id) (idsAt (now (input .entry)) first given) ⌝ }
 {
     let mut found = false;
     let mut i = 0;
     while (i < given) & !found {
-        found = id == id_at(input, first, i);
+        found = id == id_at(input, first + snapshot::ROUTER_SIZE * i);
         i += 1;
     }
     found
@@ -157,7 +150,7 @@ fn router_faults(
     index: u32,
     id: u32,
 ) -> Finding
-    requires { ⌜ first + size routerForm * given ≤ length (now input) ⌝ }
+    requires { ⌜ routerPlace first given ≤ length (now input) ⌝ }
     ensures { λ r. ⌜ r ≡ finding (routerChecks routers (idsAt (now (input .entry)) first given) index id) ⌝ }
 {
     let field = !((routers <= index) | snapshot::id_bad(id));
@@ -223,6 +216,14 @@ fn end_faults(records: usize, number: u32) -> Finding
     ensures { λ r. ⌜ r ≡ finding (endChecks records number) ⌝ }
 {
     check(number as usize == records, Refusal::Count, Finding::Clear)
+}
+
+// The id of the router record at a place.
+pub fn id_at(input: &[u8], at: usize) -> u32
+    requires { ⌜ at + 6 ≤ length (now input) ⌝ }
+    ensures { λ r. ⌜ r ≡ idAt (now (input .entry)) at ⌝ }
+{
+    wire::get32(input, at + 2)
 }
 
 // The prefix of the record at a place.
@@ -329,7 +330,7 @@ impl Cursor {
 
     // Kind 2: the id of the router whose index is due, where `given` router records stand before it, from a place on.
     pub fn router(self, input: &[u8], routers: u32, first: usize, given: usize) -> Step
-        requires { ⌜ (self .records ≤ self .at) × (self .at ≡ first + size routerForm * given) ⌝ }
+        requires { ⌜ (self .records ≤ self .at) × (self .at ≡ routerPlace first given) ⌝ }
         ensures { λ r. ⌜ stepSaid r ≡ judgedAt (self .at) (routerRecord routers (idsAt (now (input .entry)) first given) (drop (self .at) (now (input .entry))))
             (took (after self routerForm) (getD (valuesAt routerForm (now (input .entry)) (self .at)) 1 0 ∷ [])) ⌝ }
     {
@@ -337,7 +338,7 @@ impl Cursor {
         match self.opening(input, 2, false, false) {
             Finding::Fault(f) => Step::Refused(f, at),
             Finding::Clear => {
-                let id = wire::get32(input, at + 2);
+                let id = id_at(input, at);
                 match router_faults(input, routers, first, given, wire::get8(input, at + 1), id) {
                     Finding::Fault(f) => Step::Refused(f, at),
                     Finding::Clear => Step::Took(self.past(snapshot::ROUTER_SIZE), id),

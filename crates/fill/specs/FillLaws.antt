@@ -27,7 +27,7 @@ use Rattle.snapshot.specs.PairsLaws.{pairs-length, pair-two, pair-of}
 use Rattle.snapshot.specs.PlaceLaws.{kind-at}
 use Rattle.snapshot.specs.WrittenLaws.{routers-size, distances-size, routes-size, encode-size}
 use Rattle.snapshot.specs.Tables.{Tables, filled, used, putDistances}
-use Rattle.cursor.specs.Steps.{idAt}
+use Rattle.cursor.specs.Steps.{idAt, routerPlace}
 use Rattle.fill.specs.Fill.{idsIn, distanceIn, entryIn, behindDistances, routesFrom, prefixWith, prefixesFrom, filledFrom, Spans}
 
 -- each member of a list is good
@@ -98,7 +98,7 @@ module _ (s : Snapshot) (v : Valid s) where
       (distances-size (pairs n) (s .distances) (let q = square in omega arith) ∙ ap (λ (k : ℕ). 7 * k) (v .square))
 
   -- an id stands at its place
-  id-at : (i : ℕ) → i < n → idAt (encode s) (size countForm) i ≡ getD (s .ids) i 0
+  id-at : (i : ℕ) → i < n → idAt (encode s) (routerPlace (size countForm) i) ≡ getD (s .ids) i 0
   id-at i l =
       let x : ℕ = getD (s .ids) i 0 in
       let rest : List ℕ = routersBytes (suc i) (drop (suc i) (s .ids)) ++ second in
@@ -135,7 +135,7 @@ module _ (s : Snapshot) (v : Valid s) where
 
   ids-are : idsIn (encode s) n ≡ s .ids
   ids-are =
-      let f = idAt (encode s) (size countForm) in
+      let f : ℕ → ℕ = λ i. idAt (encode s) (routerPlace (size countForm) i) in
       let l = table-length n f in
       ext-getD 0 (idsIn (encode s) n) (s .ids) l (λ i h. let m : i < n = omega arith in table-at f 0 n i m ∙ id-at i m)
 

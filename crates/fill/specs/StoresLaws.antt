@@ -21,7 +21,7 @@ use Rattle.snapshot.specs.Format.{Prefix, routesIn}
 use Rattle.snapshot.specs.ChecksLaws.{length-snoc, routesIn-append}
 use Rattle.snapshot.specs.Reading.{routeOf}
 use Rattle.snapshot.specs.Tables.{Columns, Tables, tables, used, putRoutes, allRoutes, Wide}
-use Rattle.cursor.specs.Steps.{idAt}
+use Rattle.cursor.specs.Steps.{idAt, routerPlace}
 use Rattle.fill.specs.Fill.{idsIn, distanceIn, entryIn, behindDistances, filledFrom, isRoute, routesFrom, prefixWith, prefixesFrom, Lists, lists, putPrefixes, WideLists}
 use Rattle.model.specs.ColumnLaws.{sets-append}
 use Rattle.snapshot.specs.TablesLaws.{length-all, all-append}
@@ -46,9 +46,9 @@ module _ {bs : List ℕ} {n : ℕ} {ids₀ : List ℕ} where
     pub ids-long : length ids ≡ length ids₀
     ids-long = ap length (s .put) ∙ length-sets ids₀ 0 (idsIn bs i)
 
-    pub ids-next : {v : ℕ} → i < n → v ≡ idAt bs (size countForm) i → Ids bs n ids₀ (i + 1) (set ids i v)
+    pub ids-next : {v : ℕ} → i < n → v ≡ idAt bs (routerPlace (size countForm) i) → Ids bs n ids₀ (i + 1) (set ids i v)
     ids-next {v} l e =
-        let f = idAt bs (size countForm) in
+        let f : ℕ → ℕ = λ i. idAt bs (routerPlace (size countForm) i) in
         let long : i ≡ 0 + length (idsIn bs i) = (let z : i ≡ 0 + i = omega arith in z) ∙ ap (λ (k : ℕ). 0 + k) (sym (table-length i f)) in
         record {
           within = omega arith;

@@ -25,7 +25,7 @@ pub fn fill_ids(input: &[u8], n: usize, ids: &mut [u32])
 {
     let mut i = 0;
     while i < n {
-        ids[i] = cursor::id_at(input, snapshot::COUNT_SIZE, i);
+        ids[i] = cursor::id_at(input, snapshot::COUNT_SIZE + snapshot::ROUTER_SIZE * i);
         i += 1;
     }
 }

@@ -1,12 +1,11 @@
 -- What the first pass answers, and what it knows at each place of it.
-use Prim.Native.Nat.{ℕ, suc, _+_, _*_, _-_, _≤_, _<_}
+use Prim.Native.Nat.{ℕ, suc, _+_, _-_, _≤_, _<_}
 use mathlib.Core.Path.{_≡_}
 use mathlib.Core.List.{List, [], _∷_, _++_}
 use lib.ListN.{length, drop}
 use Rattle.refusal.specs.Numbers.{Said, refuses, gives}
 use Rattle.snapshot.specs.declared.Counts.{Counts}
 use Rattle.snapshot.specs.declared.Route.{Route}
-use Rattle.snapshot.specs.Records.{routerForm, size}
 use Rattle.snapshot.specs.Format.{Snapshot, Pair, row, rows, records}
 use Rattle.snapshot.specs.Reading.{Answer, accepted, refused, reading, routers, distances, items}
 use Rattle.snapshot.specs.Tables.{countsOf}
@@ -15,7 +14,7 @@ use Rattle.cursor.specs.declared.EndStep.{EndStep}
 use Rattle.cursor.specs.declared.EndStep.the-variants as endStep
 use Rattle.cursor.specs.declared.Network.{Network}
 use Rattle.cursor.specs.declared.Sofar.{Sofar}
-use Rattle.cursor.specs.Steps.{idsAt, Tells}
+use Rattle.cursor.specs.Steps.{routerPlace, idsAt, Tells}
 use Rattle.scan.specs.declared.Read.{Read}
 use Rattle.scan.specs.declared.Read.the-variants as read
 use Rattle.scan.specs.declared.Section.{Section}
@@ -55,7 +54,7 @@ Went bs known (section.Refused r at) = reading bs ≡ refused r at
 -- i of n routers were read, and their records stand from a place on
 pub record Routers (bs : List ℕ) (n first i : ℕ) (c : Cursor) : Type 0 where
   pub within : i ≤ n
-  pub place : c .at ≡ first + size routerForm * i
+  pub place : c .at ≡ routerPlace first i
   pub same : reading bs ≡ routers n (n - i) (idsAt bs first i) (c .at) (drop (c .at) bs)
   pub records : c .records ≡ 1 + i
   pub low : c .records ≤ c .at

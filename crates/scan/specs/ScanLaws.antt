@@ -1,5 +1,5 @@
 -- How the first pass goes on: one law for each turn of its loops and each way out of them.
-use Prim.Native.Nat.{ℕ, suc, _+_, _*_, _-_, _≤_, _<_, zero-le}
+use Prim.Native.Nat.{ℕ, suc, _+_, _-_, _≤_, _<_, zero-le}
 use native.Mathlib.Numerals.{add-one}
 use native.Mathlib.Decide.{decLe}
 use native.Mathlib.Omega.{arith}
@@ -37,7 +37,7 @@ use Rattle.cursor.specs.declared.RouteStep.{RouteStep}
 use Rattle.cursor.specs.declared.RouteStep.the-variants as routeStep
 use Rattle.cursor.specs.declared.EndStep.{EndStep}
 use Rattle.cursor.specs.declared.EndStep.the-variants as endStep
-use Rattle.cursor.specs.Steps.{begin, after, due, idAt, idsAt, prefixNext, routeNext, networkAt, routeAt, took, stepSaid, prefixSaid, routeSaid, endSaid, judgedAt, ending, lateBehind, Tells}
+use Rattle.cursor.specs.Steps.{begin, after, due, idAt, routerPlace, idsAt, prefixNext, routeNext, networkAt, routeAt, took, stepSaid, prefixSaid, routeSaid, endSaid, judgedAt, ending, lateBehind, Tells}
 use Rattle.cursor.specs.StepsLaws.{prefix-told, route-told}
 use Rattle.cursor.specs.Theorems.{step-tells, prefix-tells, route-tells, end-tells}
 use Rattle.scan.specs.declared.Read.{Read}
@@ -114,27 +114,24 @@ module _ {bs : List ℕ} {n first i : ℕ} {c : Cursor} (s : Routers bs n first 
   abbrev routerChecksAt : List Check
   routerChecksAt = routerRecord n (idsAt bs first i) (drop (c .at) bs)
 
-  abbrev idDue : ℕ
-  idDue = getD (valuesAt routerForm bs (c .at)) 1 0
-
   routers-now : i < n → reading bs ≡ unless routerChecksAt (c .at) λ _.
-      routers n (n - suc i) (idsAt bs first i ++ (idDue ∷ [])) (c .at + size routerForm) (drop (c .at + size routerForm) bs)
+      routers n (n - suc i) (idsAt bs first i ++ (idAt bs (c .at) ∷ [])) (c .at + size routerForm) (drop (c .at + size routerForm) bs)
   routers-now l =
       s .same ∙ ap (λ (m : ℕ). routers n m (idsAt bs first i) (c .at) (drop (c .at) bs)) (let z : n - i ≡ suc (n - suc i) = omega arith in z)
       ∙ routers-one bs (c .at) n (n - suc i) (idsAt bs first i)
 
-  pub routers-stop : {x : Step} {r : Refusal} {place : ℕ} → i < n → x ≡ step.Refused r place → stepSaid x ≡ stepOf routerChecksAt (c .at) (after c routerForm) idDue → reading bs ≡ refused r place
-  routers-stop l is e = routers-now l ∙ step-refused routerChecksAt (c .at) (after c routerForm) idDue _ e is
+  pub routers-stop : {x : Step} {r : Refusal} {place : ℕ} → i < n → x ≡ step.Refused r place → stepSaid x ≡ stepOf routerChecksAt (c .at) (after c routerForm) (idAt bs (c .at)) → reading bs ≡ refused r place
+  routers-stop l is e = routers-now l ∙ step-refused routerChecksAt (c .at) (after c routerForm) (idAt bs (c .at)) _ e is
 
-  pub routers-next : {x : Step} {next : Cursor} {id : ℕ} → i < n → x ≡ step.Took next id → stepSaid x ≡ stepOf routerChecksAt (c .at) (after c routerForm) idDue
+  pub routers-next : {x : Step} {next : Cursor} {id : ℕ} → i < n → x ≡ step.Took next id → stepSaid x ≡ stepOf routerChecksAt (c .at) (after c routerForm) (idAt bs (c .at))
       → Routers bs n first (i + 1) next
   routers-next {next = next} l taken e =
-      let (h, at, is, go) = step-took routerChecksAt (c .at) (after c routerForm) idDue
-      (λ _. routers n (n - suc i) (idsAt bs first i ++ (idDue ∷ [])) (c .at + size routerForm) (drop (c .at + size routerForm) bs)) e taken in
-      let more : idsAt bs first (i + 1) ≡ idsAt bs first i ++ (idDue ∷ []) =
-      ap (idsAt bs first) (add-one i) ∙ table-snoc (idAt bs first) i ∙ ap (λ (k : ℕ). idsAt bs first i ++ (getD (valuesAt routerForm bs k) 1 0 ∷ [])) (sym (s .place)) in
+      let (h, at, is, go) = step-took routerChecksAt (c .at) (after c routerForm) (idAt bs (c .at))
+      (λ _. routers n (n - suc i) (idsAt bs first i ++ (idAt bs (c .at) ∷ [])) (c .at + size routerForm) (drop (c .at + size routerForm) bs)) e taken in
+      let more : idsAt bs first (i + 1) ≡ idsAt bs first i ++ (idAt bs (c .at) ∷ []) =
+      ap (idsAt bs first) (add-one i) ∙ table-snoc (λ k. idAt bs (routerPlace first k)) i ∙ ap (λ (k : ℕ). idsAt bs first i ++ (idAt bs k ∷ [])) (sym (s .place)) in
       let left : n - (i + 1) ≡ n - suc i = omega arith in
-      let here : c .at ≡ first + 6 * i = s .place in
+      let here : c .at ≡ routerPlace first i = s .place in
       let count : c .records ≡ 1 + i = s .records in
       let below : c .records ≤ c .at = s .low in
       record {
@@ -149,7 +146,7 @@ module _ {bs : List ℕ} {n first i : ℕ} {c : Cursor} (s : Routers bs n first 
   routers-end l =
       let w : i ≤ n = s .within in
       let is : i ≡ n = omega arith in
-      let long : length (idsAt bs first i) ≡ n = table-length i (idAt bs first) ∙ is in
+      let long : length (idsAt bs first i) ≡ n = table-length i (λ k. idAt bs (routerPlace first k)) ∙ is in
       let count : c .records ≡ 1 + i = s .records in
       record {
         ids = idsAt bs first i;

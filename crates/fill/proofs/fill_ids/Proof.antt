@@ -19,6 +19,8 @@ fill-ids-spec =
     Inv-loop
     μ-loop
     (λ c. ids-start)
+    (λ c. omega arith)
+    (λ c. omega arith)
     (λ c κs. omega arith)
     (λ c. search needs)
     (λ c. let l : tie.In-loop Inv-loop μ-loop = search needs in omega (arith, ids-long (l .before .loop .inv)))

@@ -37,7 +37,6 @@ router-spec =
     (λ c κs. search needs)
     (λ c. search needs)
     (λ c. search needs)
-    (λ c. omega (arith, whole (search needs)))
     (λ c κs. omega (arith, whole (search needs)))
     (λ c. omega (arith, whole (search needs)))
     (λ c κs. omega (arith, whole (search needs)))
@@ -57,16 +56,16 @@ router-spec =
     let bs = now (s .args .input) in
     let at = s .args .self .at in
     let v : tie.After-router-faults = search needs in
-    let g : tie.After-get32 = search needs in
+    let g : tie.After-id-at = search needs in
     let h : tie.After-get8 = search needs in
-    at-values forms bs at routerForm ([]) (false) (false) (routerValues (s .args .routers) (idsAt bs (s .args .first) (s .args .given))) (λ f. refuses f at) (λ _. took (after (s .args .self) routerForm) (getD (valuesAt routerForm bs at) 1 0 ∷ [])) refl (no-extra _) (clear (search needs)) (sym (c .before .f2 .given .1) ∙ v .router-faults .ensures ∙ ap₂ (λ (i id : ℕ). finding (routerChecks (s .args .routers) (idsAt bs (s .args .first) (s .args .given)) i id)) (h .get8 .ensures) (g .get32 .ensures)))
+    at-values forms bs at routerForm ([]) (false) (false) (routerValues (s .args .routers) (idsAt bs (s .args .first) (s .args .given))) (λ f. refuses f at) (λ _. took (after (s .args .self) routerForm) (getD (valuesAt routerForm bs at) 1 0 ∷ [])) refl (no-extra _) (clear (search needs)) (sym (c .before .f2 .given .1) ∙ v .router-faults .ensures ∙ ap₂ (λ (i id : ℕ). finding (routerChecks (s .args .routers) (idsAt bs (s .args .first) (s .args .given)) i id)) (h .get8 .ensures) (g .id-at .ensures)))
     (λ c.
     let s : tie.Start = search needs in
     let o : tie.After-opening = search needs in
     let bs = now (s .args .input) in
     let at = s .args .self .at in
     let v : tie.After-router-faults = search needs in
-    let g : tie.After-get32 = search needs in
+    let g : tie.After-id-at = search needs in
     let h : tie.After-get8 = search needs in
     let e : tie.After-enum-told2 = search needs in
-    ap₂ (λ (c : Cursor) (n : ℕ). stepSaid (Took c n)) (c .past .ensures) (g .get32 .ensures) ∙ at-end forms bs at routerForm ([]) (false) (false) (routerValues (s .args .routers) (idsAt bs (s .args .first) (s .args .given))) (λ f. refuses f at) (λ _. took (after (s .args .self) routerForm) (getD (valuesAt routerForm bs at) 1 0 ∷ [])) refl (no-extra _) (clear (search needs)) (sym (e .enum-told2 .given .1) ∙ v .router-faults .ensures ∙ ap₂ (λ (i id : ℕ). finding (routerChecks (s .args .routers) (idsAt bs (s .args .first) (s .args .given)) i id)) (h .get8 .ensures) (g .get32 .ensures))))
+    ap₂ (λ (c : Cursor) (n : ℕ). stepSaid (Took c n)) (c .past .ensures) (g .id-at .ensures) ∙ at-end forms bs at routerForm ([]) (false) (false) (routerValues (s .args .routers) (idsAt bs (s .args .first) (s .args .given))) (λ f. refuses f at) (λ _. took (after (s .args .self) routerForm) (getD (valuesAt routerForm bs at) 1 0 ∷ [])) refl (no-extra _) (clear (search needs)) (sym (e .enum-told2 .given .1) ∙ v .router-faults .ensures ∙ ap₂ (λ (i id : ℕ). finding (routerChecks (s .args .routers) (idsAt bs (s .args .first) (s .args .given)) i id)) (h .get8 .ensures) (g .id-at .ensures))))
