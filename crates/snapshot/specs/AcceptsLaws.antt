@@ -12,9 +12,9 @@ use Rattle.wire.specs.NumbersLaws.{bytes-drop}
 use Rattle.snapshot.specs.Limits.{mostInPrefix, mostRoutes}
 use Rattle.snapshot.specs.Ranges.{none, countTests, idTests, distanceTests, pairTests}
 use Rattle.snapshot.specs.RangesLaws.{none-split}
-use Rattle.snapshot.specs.Records.{Form, countForm, routerForm, distanceForm, prefixForm, routeForm, endForm, forms, written, kind, values, size}
-use Rattle.snapshot.specs.RecordsLaws.{split-written, fits-values}
-use Rattle.snapshot.specs.Format.{Prefix, Snapshot, Pair, pairs, Holds, Each, GoodId, GoodDistance, GoodRoute, GoodPrefix, Valid, routesIn, routersBytes, distancesBytes, prefixesBytes, routeFields, encodeOpen, encode, records}
+use Rattle.snapshot.specs.Records.{Forms, countForm, routerForm, distanceForm, prefixForm, routeForms, endForm, forms, only, stands, written, writtenIn, kind, values, Fits, sizeIn, valuesIn}
+use Rattle.snapshot.specs.RecordsLaws.{split-written, fits-values, Chosen, of-routes, only-chosen, routes-chosen, split-in, fits-in}
+use Rattle.snapshot.specs.Format.{Prefix, Snapshot, Pair, pairs, Check, Holds, Each, GoodId, GoodDistance, GoodRoute, GoodPrefix, Valid, routesIn, routersBytes, distancesBytes, prefixesBytes, routeFields, encodeOpen, encode, records}
 use Rattle.snapshot.specs.Reading.{accepted, openRoutes, addRoute, withPrefixes, withPrefix, withRoute, prefixOf, routeOf, prefixExtra, prefixValues, prefixRecord, routeExtra, routeValues, routeRecord, endValues, endRecord, tail, item, itemsWithin, items, distanceValues, distanceRecord, distances, routerValues, routerRecord, routers, countValues, countRecord, reading}
 use Rattle.snapshot.specs.ChecksLaws.{Passed, passed, unless-accepted, either-cases, refused-not-accepted, accepted-injective, each-snoc, length-snoc, routers-snoc, distances-snoc, prefixes-append, prefixes-add, length-add, routesIn-append, routesIn-add, each-add, open-more, some-prefix}
 use Rattle.snapshot.specs.PairsLaws.{pairs-length}
@@ -30,14 +30,14 @@ Sound W t = (W ≡ encode t) × Valid t
 
 module _ (W : List ℕ) (s : Snapshot) (bs : List ℕ) (c : SoFar W s bs) where
   -- the record at the head goes over to what was read
-  moved : (f : Form) (ps : List Prefix) → T (eqb (kind bs) (f .kind)) → T (leb (size f) (length bs))
-      → prefixesBytes ps ≡ prefixesBytes (s .prefixes) ++ written f (values f bs)
-      → W ≡ encodeOpen (withPrefixes s ps) ++ drop (size f) bs
-  moved f ps k l e =
+  moved : (fs : Forms) {extra : List Check} {checks : List ℕ → List Check} (ps : List Prefix) → Chosen forms fs → Passed fs extra checks bs
+      → prefixesBytes ps ≡ prefixesBytes (s .prefixes) ++ writtenIn fs (valuesIn fs bs)
+      → W ≡ encodeOpen (withPrefixes s ps) ++ drop (sizeIn fs bs) bs
+  moved fs ps ch h e =
       c .written-is
-      ∙ ap (λ (l : List ℕ). encodeOpen s ++ l) (split-written f bs (c .bytes) k l)
-      ∙ sym (append-assoc (encodeOpen s) (written f (values f bs)) (drop (size f) bs))
-      ∙ ap (λ (l : List ℕ). l ++ drop (size f) bs) (sym (open-more s ps (written f (values f bs)) e))
+      ∙ ap (λ (l : List ℕ). encodeOpen s ++ l) (split-in forms fs ch bs (h .due) (h .its) (c .bytes) (h .whole))
+      ∙ sym (append-assoc (encodeOpen s) (writtenIn fs (valuesIn fs bs)) (drop (sizeIn fs bs) bs))
+      ∙ ap (λ (l : List ℕ). l ++ drop (sizeIn fs bs) bs) (sym (open-more s ps (writtenIn fs (valuesIn fs bs)) e))
 
   prefix-read : Holds (prefixRecord s bs)
       → SoFar W (withPrefixes s (s .prefixes ++ (prefixOf (values prefixForm bs) ∷ []))) (drop 6 bs)
@@ -45,10 +45,10 @@ module _ (W : List ℕ) (s : Snapshot) (bs : List ℕ) (c : SoFar W s bs) where
   prefix-read e =
       let ps : List Prefix = s .prefixes in
       let p : Prefix = prefixOf (values prefixForm bs) in
-      let h = passed forms prefixForm (prefixExtra s) (prefixValues s) bs e in
+      let h = passed forms (only prefixForm) (prefixExtra s) (prefixValues s) bs e in
       record {
         bytes = bytes-drop 6 bs (c .bytes);
-        written-is = moved prefixForm (ps ++ (p ∷ [])) (h .due) (h .whole) (prefixes-append ps (p ∷ []));
+        written-is = moved (only prefixForm) (ps ++ (p ∷ [])) (only-chosen forms prefixForm tt) h (prefixes-append ps (p ∷ []));
         valid = record {
           count = c .valid .count;
           ids = c .valid .ids;
@@ -61,22 +61,27 @@ module _ (W : List ℕ) (s : Snapshot) (bs : List ℕ) (c : SoFar W s bs) where
         };
       }
 
+  -- both forms of a route have its values
+  route-values : routeFields (routeOf (valuesIn routeForms bs)) ≡ valuesIn routeForms bs
+  route-values = of-routes (λ f. routeFields (routeOf (values f bs)) ≡ values f bs) refl refl (eqb (kind bs) 7)
+
   route-read : Holds (routeRecord s bs)
-      → SoFar W (withPrefixes s (addRoute (s .prefixes) (routeOf (values routeForm bs)))) (drop 24 bs)
+      → SoFar W (withPrefixes s (addRoute (s .prefixes) (routeOf (valuesIn routeForms bs)))) (drop (sizeIn routeForms bs) bs)
   unfolding routeRecord
   route-read e =
-      let r : Route = routeOf (values routeForm bs) in
+      let r : Route = routeOf (valuesIn routeForms bs) in
       let n : ℕ = length (s .ids) in
       let ps : List Prefix = s .prefixes in
-      let h = passed forms routeForm (routeExtra s) (routeValues s) bs e in
+      let h = passed forms routeForms (routeExtra s) (routeValues s) bs e in
       let one : T (not (eqb (length ps) 0)) = h .free .0 in
       let size : length (addRoute ps r) ≡ length ps = some-prefix (λ ps. length (addRoute ps r) ≡ length ps) (λ p ps. length-add p ps r) ps one in
       let more : routesIn (addRoute ps r) ≡ suc (routesIn ps) =
       some-prefix (λ ps. routesIn (addRoute ps r) ≡ suc (routesIn ps)) (λ p ps. routesIn-add p ps r) ps one in
       record {
-        bytes = bytes-drop 24 bs (c .bytes);
-        written-is = moved routeForm (addRoute ps r) (h .due) (h .whole)
-            (some-prefix (λ ps. prefixesBytes (addRoute ps r) ≡ prefixesBytes ps ++ written routeForm (routeFields r)) (λ p ps. prefixes-add p ps r) ps one);
+        bytes = bytes-drop (sizeIn routeForms bs) bs (c .bytes);
+        written-is = moved routeForms (addRoute ps r) routes-chosen h
+            (some-prefix (λ ps. prefixesBytes (addRoute ps r) ≡ prefixesBytes ps ++ writtenIn routeForms (routeFields r)) (λ p ps. prefixes-add p ps r) ps one
+            ∙ ap (λ (v : List ℕ). prefixesBytes ps ++ writtenIn routeForms v) route-values);
         valid = record {
           count = c .valid .count;
           ids = c .valid .ids;
@@ -87,7 +92,7 @@ module _ (W : List ℕ) (s : Snapshot) (bs : List ℕ) (c : SoFar W s bs) where
           prefixes = some-prefix
               (λ ps. Each (GoodPrefix n) [] ps → length (openRoutes ps) < mostInPrefix → GoodRoute n (openRoutes ps) r → Each (GoodPrefix n) [] (addRoute ps r))
               (λ p ps. each-add n [] p ps r) ps one (c .valid .prefixes) (ltb→lt (length (openRoutes ps)) mostInPrefix (h .free .1 .0))
-              (record { fits = fits-values routeForm bs (c .bytes) (h .whole); obeys = h .good });
+              (record { fits = subst (λ (v : List ℕ). Fits (routeForms .chosen v .widths) v) (sym route-values) (fits-in forms routeForms routes-chosen bs (h .due) (h .its) (c .bytes) (h .whole)); obeys = h .good });
         };
       }
 
@@ -95,8 +100,8 @@ module _ (W : List ℕ) (s : Snapshot) (bs : List ℕ) (c : SoFar W s bs) where
   unfolding endRecord
   at-end t at e r = go (drop 5 bs) refl r
     where
-      h : Passed endForm [] (endValues (records s)) bs
-      h = passed forms endForm [] (endValues (records s)) bs e
+      h : Passed (only endForm) [] (endValues (records s)) bs
+      h = passed forms (only endForm) [] (endValues (records s)) bs e
 
       go : (rest : List ℕ) → drop 5 bs ≡ rest → tail s at rest ≡ accepted t → Sound W t
       go [] d r =
@@ -117,10 +122,10 @@ items-sound (suc fuel) W t s at bs c e =
     (λ _ go.
     let (b, go) = unless-accepted (prefixRecord s bs) at _ t go in
     items-sound fuel W t (withPrefix s bs) (at + 6) (drop 6 bs) (prefix-read W s bs c b) go)
-    (λ _ go. either-cases (eqb (kind bs) 5) _ _ (accepted t) go
+    (λ _ go. either-cases (stands routeForms (kind bs)) _ _ (accepted t) go
     (λ _ go.
     let (b, go) = unless-accepted (routeRecord s bs) at _ t go in
-    items-sound fuel W t (withRoute s bs) (at + 24) (drop 24 bs) (route-read W s bs c b) go)
+    items-sound fuel W t (withRoute s bs) (at + sizeIn routeForms bs) (drop (sizeIn routeForms bs) bs) (route-read W s bs c b) go)
     (λ _ go.
     let (b, go) = unless-accepted (endRecord forms (records s) bs) at _ t go in
     at-end W s bs c t (at + 5) b go))
@@ -163,7 +168,7 @@ module _ (W : List ℕ) (t : Snapshot) (ids : List ℕ) (some : T (none (countTe
       }) e
   distances-sound (p ∷ due) ds at bs bytes w l d g e =
       let (z, go) = unless-accepted (distanceRecord (length ids) p bs) at _ t e in
-      let h = passed forms distanceForm [] (distanceValues (length ids) p) bs z in
+      let h = passed forms (only distanceForm) [] (distanceValues (length ids) p) bs z in
       let x : ℕ = getD (values distanceForm bs) 2 0 in
       let ps : List Pair = pairs (length ids) in
       let split : bs ≡ written distanceForm (p .from ∷ p .to ∷ x ∷ []) ++ drop 7 bs =
@@ -195,7 +200,7 @@ module _ (W : List ℕ) (t : Snapshot) (n : ℕ) (some : T (none (countTests n))
       (w ∙ ap (λ (m : ℕ). written countForm (m ∷ []) ++ (routersBytes 0 ids ++ bs)) is) (omega arith) refl tt e
   routers-sound (suc left) ids at bs bytes w l g e =
       let (z, go) = unless-accepted (routerRecord n ids bs) at _ t e in
-      let h = passed forms routerForm [] (routerValues n ids) bs z in
+      let h = passed forms (only routerForm) [] (routerValues n ids) bs z in
       let x : ℕ = getD (values routerForm bs) 1 0 in
       let split : bs ≡ written routerForm ((0 + length ids) ∷ x ∷ []) ++ drop 6 bs =
       split-written routerForm bs bytes (h .due) (h .whole)
@@ -215,7 +220,7 @@ pub reading-sound : (bs : List ℕ) (s : Snapshot) → T (areBytes bs) → readi
 unfolding reading countRecord
 reading-sound bs s bytes e =
     let (z, go) = unless-accepted (countRecord bs) 0 _ s e in
-    let h = passed forms countForm [] countValues bs z in
+    let h = passed forms (only countForm) [] countValues bs z in
     let n : ℕ = getD (values countForm bs) 0 0 in
     routers-sound bs s n (h .good .0) n [] 2 (drop 2 bs) (bytes-drop 2 bs bytes)
     (split-written countForm bs bytes (h .due) (h .whole)) (omega arith) tt go

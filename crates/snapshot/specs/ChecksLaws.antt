@@ -1,19 +1,20 @@
 -- What the checks and the small functions of reading are worth in a proof.
 use Prim.Native.Nat.{ℕ, zero, suc, _+_, _≤_, _<_}
 use native.Mathlib.Omega.{arith}
-use mathlib.Core.Path.{_≡_, refl, sym, ap, _∙_}
+use mathlib.Core.Path.{_≡_, refl, sym, ap, _∙_, subst, subst₂}
 use mathlib.Core.Bool.{Bool, true, false, not}
 use mathlib.Core.List.{List, [], _∷_, _++_, append-assoc, append-nil}
 use lib.ListN.{length, getD, drop}
-use lib.Dec.{T, leb, eqb, eqb·suc-zero}
+use lib.Dec.{T, leb, eqb, le→leb, eqb-refl, eqb·suc-zero}
 use borrow.Author.Tests.{ltb-false, eqb-false}
 use Rattle.refusal.specs.declared.Refusal.{Refusal}
-use Rattle.refusal.specs.declared.Refusal.the-variants.{Cut}
+use Rattle.refusal.specs.declared.Refusal.the-variants.{Cut, Field}
 use Rattle.model.specs.Decision.{Route}
 use Rattle.snapshot.specs.Limits.{mostRouters, mostInPrefix}
 use Rattle.snapshot.specs.Ranges.{none, countTests}
 use Rattle.snapshot.specs.RangesLaws.{none-at}
-use Rattle.snapshot.specs.Records.{Form, distanceForm, prefixForm, routeForm, routerForm, written, size, known, kind, values}
+use Rattle.snapshot.specs.Records.{Form, Forms, distanceForm, prefixForm, routeForms, routerForm, written, writtenIn, stands, known, kind, size, values, Fits, formIn, sizeIn, valuesIn}
+use Rattle.snapshot.specs.RecordsLaws.{values-written, length-written, drop-written, Chosen}
 use Rattle.snapshot.specs.Format.{Prefix, Snapshot, Pair, Check, _else_, judged, Holds, latest, Each, GoodRoute, GoodPrefix, routesIn, routesBytes, routersBytes, distancesBytes, prefixesBytes, routeFields, encodeOpen, Valid}
 use Rattle.snapshot.specs.Reading.{AnswerOf, accepted, refused, unless, either, isNil, recordChecks, openRoutes, addRoute, withPrefixes}
 
@@ -65,23 +66,59 @@ append-holds [] ys hx hy = hy
 append-holds ((b else k) ∷ xs) ys hx hy = (hx .0, append-holds xs ys (hx .1) hy)
 
 -- a record that passed its checks
-pub record Passed (f : Form) (extra : List Check) (checks : List ℕ → List Check) (bs : List ℕ) : Type 0 where
-  pub due : T (eqb (kind bs) (f .kind))
+pub record Passed (fs : Forms) (extra : List Check) (checks : List ℕ → List Check) (bs : List ℕ) : Type 0 where
+  pub due : T (stands fs (kind bs))
   pub free : Holds extra
-  pub whole : T (leb (size f) (length bs))
-  pub good : Holds (checks (values f bs))
+  pub whole : T (leb (sizeIn fs bs) (length bs))
+  pub its : T (eqb (formIn fs bs .kind) (fs .chosen (valuesIn fs bs) .kind))
+  pub good : Holds (checks (valuesIn fs bs))
 
-module _ (table : List Form) (f : Form) (extra : List Check) (checks : List ℕ → List Check) (bs : List ℕ) where
-  pub passed : Holds (recordChecks table f extra checks bs) → Passed f extra checks bs
-  unfolding recordChecks
-  passed h =
-      let (free, rest) = holds-append extra ((leb (size f) (length bs) else Cut) ∷ checks (values f bs)) (h .1 .1 .1) in
-      record { due = h .1 .1 .0; free = free; whole = rest .0; good = rest .1 }
+module _ (table : List Form) (fs : Forms) (extra : List Check) (checks : List ℕ → List Check) (bs : List ℕ) where
+  abbrev body : List Check
+  body =
+      (leb (sizeIn fs bs) (length bs) else Cut)
+      ∷ (eqb (formIn fs bs .kind) (fs .chosen (valuesIn fs bs) .kind) else Field)
+      ∷ checks (valuesIn fs bs)
 
-  pub passing : T (not (isNil bs)) → T (known table (kind bs)) → Passed f extra checks bs → Holds (recordChecks table f extra checks bs)
+  pub passed : Holds (recordChecks table fs extra checks bs) → Passed fs extra checks bs
   unfolding recordChecks
-  passing one some p =
-      (one, (some, (p .due, append-holds extra ((leb (size f) (length bs) else Cut) ∷ checks (values f bs)) (p .free) (p .whole, p .good))))
+  passed h = let (free, rest) = holds-append extra body (h .1 .1 .1) in record { due = h .1 .1 .0; free = free; whole = rest .0; its = rest .1 .0; good = rest .1 .1 }
+
+  pub passing : T (not (isNil bs)) → T (known table (kind bs)) → Passed fs extra checks bs → Holds (recordChecks table fs extra checks bs)
+  unfolding recordChecks
+  passing one some p = (one, (some, (p .due, append-holds extra body (p .free) (p .whole, (p .its, p .good)))))
+
+-- ---- a record that was written passes its checks
+
+module _ (table : List Form) (fs : Forms) (ch : Chosen table fs) (vs rest : List ℕ) (fit : Fits (fs .chosen vs .widths) vs) where
+  abbrev its : Form
+  its = fs .chosen vs
+
+  abbrev back : List ℕ
+  back = writtenIn fs vs ++ rest
+
+  is-chosen : formIn fs back ≡ its
+  is-chosen = ch .found vs
+
+  pub stands-back : T (stands fs (kind back))
+  stands-back = subst (λ (g : Form). T (eqb (its .kind) (g .kind))) (sym is-chosen) (eqb-refl (its .kind))
+
+  pub values-back : valuesIn fs back ≡ vs
+  values-back = ap (λ (g : Form). values g back) is-chosen ∙ values-written its vs rest fit
+
+  pub drop-back : drop (sizeIn fs back) back ≡ rest
+  drop-back = ap (λ (g : Form). drop (size g) back) is-chosen ∙ drop-written its vs rest fit
+
+  pub record-passes : (extra : List Check) (checks : List ℕ → List Check) → Holds extra → Holds (checks vs) → Holds (recordChecks table fs extra checks back)
+  record-passes extra checks free h =
+      passing table fs extra checks back tt (ch .listed vs)
+      (record {
+        due = stands-back;
+        free = free;
+        whole = subst (λ (g : Form). T (leb (size g) (length back))) (sym is-chosen) (le→leb (size its) _ (rw (length-written its vs rest fit) (omega arith)));
+        its = subst₂ (λ (g : Form) (v : List ℕ). T (eqb (g .kind) (fs .chosen v .kind))) (sym is-chosen) (sym values-back) (eqb-refl (its .kind));
+        good = subst (λ (v : List ℕ). Holds (checks v)) (sym values-back) h;
+      })
 
 -- ---- ranges
 
@@ -174,22 +211,27 @@ prefixes-append (p ∷ ps) qs =
 
 pub routes-append : (rs qs : List Route) → routesBytes (rs ++ qs) ≡ routesBytes rs ++ routesBytes qs
 routes-append [] qs = refl
-routes-append (r ∷ rs) qs = ap (λ (l : List ℕ). written routeForm (routeFields r) ++ l) (routes-append rs qs)
+routes-append (r ∷ rs) qs =
+    ap (λ (l : List ℕ). writtenIn routeForms (routeFields r) ++ l) (routes-append rs qs)
+    ∙ sym (append-assoc (writtenIn routeForms (routeFields r)) (routesBytes rs) (routesBytes qs))
+
+routes-snoc : (rs : List Route) (r : Route) → routesBytes (rs ++ (r ∷ [])) ≡ routesBytes rs ++ writtenIn routeForms (routeFields r)
+routes-snoc rs r = routes-append rs (r ∷ []) ∙ ap (λ (l : List ℕ). routesBytes rs ++ l) (append-nil (writtenIn routeForms (routeFields r)))
 
 pub some-prefix : (P : List Prefix → Type 0) → ((p : Prefix) (ps : List Prefix) → P (p ∷ ps)) → (ps : List Prefix) → T (not (eqb (length ps) 0)) → P ps
 some-prefix P f [] h = absurd h
 some-prefix P f (p ∷ ps) h = f p ps
 
 pub prefixes-add : (p : Prefix) (ps : List Prefix) (r : Route)
-    → prefixesBytes (addRoute (p ∷ ps) r) ≡ prefixesBytes (p ∷ ps) ++ written routeForm (routeFields r)
+    → prefixesBytes (addRoute (p ∷ ps) r) ≡ prefixesBytes (p ∷ ps) ++ writtenIn routeForms (routeFields r)
 prefixes-add p [] r =
     ap (λ (l : List ℕ). written prefixForm (p .address ∷ p .bits ∷ []) ++ l)
-    (append-nil (routesBytes (p .routes ++ (r ∷ []))) ∙ routes-append (p .routes) (r ∷ [])
-    ∙ ap (λ (l : List ℕ). l ++ written routeForm (routeFields r)) (sym (append-nil (routesBytes (p .routes)))))
+    (append-nil (routesBytes (p .routes ++ (r ∷ []))) ∙ routes-snoc (p .routes) r
+    ∙ ap (λ (l : List ℕ). l ++ writtenIn routeForms (routeFields r)) (sym (append-nil (routesBytes (p .routes)))))
 prefixes-add p (q ∷ ps) r =
     ap (λ (l : List ℕ). written prefixForm (p .address ∷ p .bits ∷ []) ++ l)
     (ap (λ (l : List ℕ). routesBytes (p .routes) ++ l) (prefixes-add q ps r)
-    ∙ sym (append-assoc (routesBytes (p .routes)) (prefixesBytes (q ∷ ps)) (written routeForm (routeFields r))))
+    ∙ sym (append-assoc (routesBytes (p .routes)) (prefixesBytes (q ∷ ps)) (writtenIn routeForms (routeFields r))))
 
 pub length-add : (p : Prefix) (ps : List Prefix) (r : Route) → length (addRoute (p ∷ ps) r) ≡ suc (length ps)
 length-add p [] r = refl

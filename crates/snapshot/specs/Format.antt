@@ -11,7 +11,7 @@ use Rattle.model.specs.Rows.{some}
 use Rattle.model.specs.Decision.{Route}
 use Rattle.snapshot.specs.Limits.{mostPrefixes, mostInPrefix, mostRoutes}
 use Rattle.snapshot.specs.Ranges.{none, countTests, idTests, routerTests, distanceTests, pairTests, prefixTests, routeTests, rises, risesRoute}
-use Rattle.snapshot.specs.Records.{countForm, routerForm, distanceForm, prefixForm, routeForm, endForm, written, Fits}
+use Rattle.snapshot.specs.Records.{countForm, routerForm, distanceForm, prefixForm, routeForms, endForm, written, writtenIn, Fits}
 
 -- a prefix: its address, its length in bits, its routes
 pub record Prefix : Type 0 where
@@ -129,7 +129,7 @@ distancesBytes (p ∷ ps) (d ∷ ds) = written distanceForm (p .from ∷ p .to �
 -- the route records of a prefix
 abbrev pub routesBytes : List Route → List ℕ
 routesBytes [] = []
-routesBytes (r ∷ rs) = written routeForm (routeFields r) ++ routesBytes rs
+routesBytes (r ∷ rs) = writtenIn routeForms (routeFields r) ++ routesBytes rs
 
 -- the prefix records, each with its routes
 abbrev pub prefixesBytes : List Prefix → List ℕ
@@ -176,7 +176,7 @@ GoodDistance before d = T (none (distanceTests d))
 
 -- a route whose values fit their fields, in its ranges, above the one before it
 pub record GoodRoute (n : ℕ) (before : List Route) (r : Route) : Type 0 where
-  pub fits : Fits (routeForm .widths) (routeFields r)
+  pub fits : Fits (routeForms .chosen (routeFields r) .widths) (routeFields r)
   pub obeys : Holds (routeChecks n before r)
 
 -- a prefix of four bytes' address, in its ranges, above the one before it, with good routes

@@ -33,9 +33,17 @@ mostInPrefix = 256
 abbrev pub mostRoutes : ℕ
 mostRoutes = 1024
 
+-- the AS that stands in for many neighbours (RFC 6793)
+abbrev pub standInAsn : ℕ
+standInAsn = 23456
+
+-- the last AS of two bytes, which no neighbour has
+abbrev pub lastTwoByteAsn : ℕ
+lastTwoByteAsn = 65535
+
 -- the highest neighbour AS
 abbrev pub lastAsn : ℕ
-lastAsn = 65534
+lastAsn = 4294967294
 
 -- the longest path
 abbrev pub longestPath : ℕ
@@ -47,4 +55,4 @@ lastOrigin = 2
 
 -- the bytes of the longest snapshot
 abbrev pub longest : ℕ
-longest = 53575
+longest = 55623

@@ -4,12 +4,12 @@ use mathlib.Core.List.{List, [], _∷_}
 use lib.ListN.{replicate}
 use Rattle.model.specs.Rows.{span}
 use Rattle.model.specs.Decision.{Route}
-use Rattle.snapshot.specs.Limits.{mostRouters, mostPrefixes, mostBits}
+use Rattle.snapshot.specs.Limits.{mostRouters, mostPrefixes, mostBits, lastTwoByteAsn}
 use Rattle.snapshot.specs.Format.{Prefix, Snapshot}
 
--- a route of router 0 with this peer address
+-- a route of router 0 with this peer address, of an AS of four bytes
 abbrev pub routeFrom : ℕ → Route
-routeFrom peer = record { router = 0; asn = 1; preference = 0; path = 1; origin = 0; mark = 0; med = 0; nid = 1; peer = peer }
+routeFrom peer = record { router = 0; asn = suc lastTwoByteAsn; preference = 0; path = 1; origin = 0; mark = 0; med = 0; nid = 1; peer = peer }
 
 -- so many routes, behind the one of this peer
 abbrev pub routesAfter : ℕ → ℕ → List Route

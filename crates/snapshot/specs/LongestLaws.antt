@@ -123,4 +123,4 @@ full-valid = record {
 pub full-long : length (encode fullSnapshot) ≡ longest
 full-long =
     let d : length (fullSnapshot .distances) ≡ mostRouters * (mostRouters - 1) = length-replicate {A = ℕ} (mostRouters * (mostRouters - 1)) 0 in
-    encode-size fullSnapshot d ∙ ap (λ (k : ℕ). 7 + 6 * mostRouters + 7 * k + 6 * mostPrefixes + 24 * mostRoutes) d
+    encode-size fullSnapshot d ∙ ap (λ (k : ℕ). 7 + 6 * mostRouters + 7 * k + 6 * mostPrefixes + 26 * mostRoutes) d

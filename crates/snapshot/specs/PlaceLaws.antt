@@ -3,16 +3,16 @@
 use Prim.Native.Nat.{ℕ, suc, _+_, _-_, _≤_, _<_}
 use native.Mathlib.Decide.{decLe}
 use native.Mathlib.Omega.{arith}
-use mathlib.Core.Path.{_≡_, refl, sym, ap, ap₂, _∙_}
+use mathlib.Core.Path.{_≡_, refl, sym, ap, ap₂, _∙_, subst}
 use mathlib.Core.Logic.{_≢_}
 use mathlib.Core.Bool.{Bool, not}
 use mathlib.Core.List.{List, [], _∷_, _++_}
 use lib.ListN.{length, getD, drop, length-drop, drop-of-length-le}
 use lib.Seq.{drop-drop, drop-cons, getD-drop}
-use lib.Dec.{leb, ltb, eqb}
+use lib.Dec.{T, leb, ltb, eqb}
 use borrow.Author.Tests.{le-leb, lt-leb, lt-ltb, le-ltb}
-use Rattle.refusal.specs.declared.Refusal.the-variants.{Cut, Kind, Place, Tail}
-use Rattle.snapshot.specs.Records.{forms, Form, countForm, routerForm, distanceForm, prefixForm, routeForm, endForm, size, known, kind, values, valuesAt}
+use Rattle.refusal.specs.declared.Refusal.the-variants.{Cut, Kind, Place, Field, Tail}
+use Rattle.snapshot.specs.Records.{Form, Forms, countForm, routerForm, distanceForm, prefixForm, routeForms, endForm, forms, formOf, formAt, stands, size, known, kind, values, valuesAt, sizeIn, valuesIn}
 use Rattle.snapshot.specs.RecordsLaws.{values-at}
 use Rattle.snapshot.specs.Format.{Snapshot, Pair, pairs, records, Check, _else_}
 use Rattle.snapshot.specs.Reading.{accepted, refused, unless, isNil, recordChecks, withPrefixes, prefixOf, routeOf, addRoute, prefixRecord, routeRecord, endRecord, tail, items, distanceRecord, distances, routerRecord, routers, countRecord, reading}
@@ -42,19 +42,32 @@ module _ (bs : List ℕ) where
       go (no e) = lt-leb (suc k) (length (drop at bs)) (omega (arith, l)) ∙ sym (lt-leb (at + suc k) (length bs) (omega arith))
 
   -- the checks of the record at a place
-  pub record-at : (table : List Form) (f : Form) (extra : List Check) (checks : List ℕ → List Check) (at : ℕ)
-      → recordChecks table f extra checks (drop at bs)
-      ≡ (ltb at (length bs) else Cut)
+  pub record-at : (table : List Form) (fs : Forms) (extra : List Check) (checks : List ℕ → List Check) (at : ℕ)
+      → recordChecks table fs extra checks (drop at bs)
+      ≡ (let f = formAt fs bs at in
+      (ltb at (length bs) else Cut)
       ∷ (known table (getD bs at 0) else Kind)
-      ∷ (eqb (getD bs at 0) (f .kind) else Place)
+      ∷ (stands fs (getD bs at 0) else Place)
       ∷ extra
       ++ ((leb (at + size f) (length bs) else Cut)
-      ∷ checks (valuesAt f bs at))
+      ∷ (eqb (f .kind) (fs .chosen (valuesAt f bs at) .kind) else Field)
+      ∷ checks (valuesAt f bs at)))
   unfolding recordChecks
-  record-at table f extra checks at =
-      let front : Bool → ℕ → List Check = λ b k. (b else Cut) ∷ (known table k else Kind) ∷ (eqb k (f .kind) else Place) ∷ extra in
-      ap₂ (λ (b : Bool) (k : ℕ). front b k ++ ((leb (size f) (length (drop at bs)) else Cut) ∷ checks (values f (drop at bs)))) (more-at at) (kind-at at)
-      ∙ ap₂ (λ (b : Bool) (v : List ℕ). front (ltb at (length bs)) (getD bs at 0) ++ ((b else Cut) ∷ checks v)) (enough-at at _) (values-at f bs at)
+  record-at table fs extra checks at =
+      let front : Bool → ℕ → List Check = λ b k. (b else Cut) ∷ (known table k else Kind) ∷ (stands fs k else Place) ∷ extra in
+      let body : Form → Bool → List ℕ → List Check = λ f b v. (b else Cut) ∷ (eqb (f .kind) (fs .chosen v .kind) else Field) ∷ checks v in
+      let f : Form = formAt fs bs at in
+      ap₂ (λ (b : Bool) (k : ℕ). front b k ++ body (formOf fs k) (leb (size (formOf fs k)) (length (drop at bs))) (values (formOf fs k) (drop at bs))) (more-at at) (kind-at at)
+      ∙ ap₂ (λ (b : Bool) (v : List ℕ). front (ltb at (length bs)) (getD bs at 0) ++ body f b v) (enough-at at _) (values-at f bs at)
+
+  -- what comes after it
+  pub after-at : {A : Type 0} (fs : Forms) (at : ℕ) (go : List ℕ → ℕ → List ℕ → A)
+      → go (valuesIn fs (drop at bs)) (sizeIn fs (drop at bs)) (drop (sizeIn fs (drop at bs)) (drop at bs))
+      ≡ (let f = formAt fs bs at in go (valuesAt f bs at) (size f) (drop (at + size f) bs))
+  after-at fs at go =
+      let f : Form = formAt fs bs at in
+      ap (λ (k : ℕ). go (values (formOf fs k) (drop at bs)) (size (formOf fs k)) (drop (size (formOf fs k)) (drop at bs))) (kind-at at)
+      ∙ ap₂ (λ (v l : List ℕ). go v (size f) l) (values-at f bs at) (drop-drop (size f) at bs)
 
   -- ---- one more record
 
@@ -99,20 +112,20 @@ module _ (bs : List ℕ) where
           ∙ ap₂ (λ (v l : List ℕ). unless (prefixRecord s (drop at bs)) at λ _. items (withPrefixes s (s .prefixes ++ (prefixOf v ∷ []))) (at + size prefixForm) l)
           (values-at prefixForm bs at) (drop-drop (size prefixForm) at bs)
 
-      pub items-one-route : getD bs at 0 ≡ 5
+      pub items-one-route : T (stands routeForms (getD bs at 0))
           → items s at (drop at bs)
           ≡ unless (routeRecord s (drop at bs)) at λ _.
-          items (withPrefixes s (addRoute (s .prefixes) (routeOf (valuesAt routeForm bs at)))) (at + size routeForm) (drop (at + size routeForm) bs)
+          let f = formAt routeForms bs at in
+          items (withPrefixes s (addRoute (s .prefixes) (routeOf (valuesAt f bs at)))) (at + size f) (drop (at + size f) bs)
       items-one-route k =
-          items-route s at (drop at bs) (kind-at at ∙ k)
-          ∙ ap₂ (λ (v l : List ℕ). unless (routeRecord s (drop at bs)) at λ _. items (withPrefixes s (addRoute (s .prefixes) (routeOf v))) (at + size routeForm) l)
-          (values-at routeForm bs at) (drop-drop (size routeForm) at bs)
+          items-route s at (drop at bs) (subst (λ (b : ℕ). T (stands routeForms b)) (sym (kind-at at)) k)
+          ∙ after-at routeForms at (λ v n l. unless (routeRecord s (drop at bs)) at λ _. items (withPrefixes s (addRoute (s .prefixes) (routeOf v))) (at + n) l)
 
       -- a byte that is not there reads as 0
-      pub items-last : getD bs at 0 ≢ 4 → getD bs at 0 ≢ 5
+      pub items-last : getD bs at 0 ≢ 4 → T (not (stands routeForms (getD bs at 0)))
           → items s at (drop at bs) ≡ unless (endRecord forms (records s) (drop at bs)) at λ _. tail s (at + size endForm) (drop (at + size endForm) bs)
-      items-last no4 no5 =
-          items-end s at (drop at bs) (rw kind-at no4) (rw kind-at no5)
+      items-last no4 other =
+          items-end s at (drop at bs) (rw kind-at no4) (subst (λ (b : ℕ). T (not (stands routeForms b))) (sym (kind-at at)) other)
           ∙ ap (λ (l : List ℕ). unless (endRecord forms (records s) (drop at bs)) at λ _. tail s (at + size endForm) l) (drop-drop (size endForm) at bs)
 
     pub tail-none : (s : Snapshot) → length bs ≤ at → tail s at (drop at bs) ≡ accepted s

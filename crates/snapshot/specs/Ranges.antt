@@ -5,7 +5,7 @@ use mathlib.Core.Bool.{Bool, false, not, _&&_, _||_}
 use mathlib.Core.List.{List, [], _∷_}
 use lib.Dec.{leb, ltb, eqb}
 use Rattle.model.specs.Decision.{Route}
-use Rattle.snapshot.specs.Limits.{mostRouters, farthest, mostBits, lastAsn, longestPath, lastOrigin}
+use Rattle.snapshot.specs.Limits.{mostRouters, farthest, mostBits, standInAsn, lastTwoByteAsn, lastAsn, longestPath, lastOrigin}
 
 -- whether a test holds, or one of a list
 abbrev pub orAny : Bool → List Bool → Bool
@@ -44,13 +44,16 @@ pairTests n from to distance = leb n from ∷ leb n to ∷ distanceTests distanc
 abbrev pub prefixTests : ℕ → ℕ → List Bool
 prefixTests address bits = ltb mostBits bits ∷ not (eqb (address % 2 ^ (mostBits - bits)) 0) ∷ []
 
--- router below n; neighbour AS 1 to 65,534; local preference any; path length 1 to 65,535; origin 0 to 2; MED mark 0 or 1, and with
+-- neighbour AS 1 to 65,534 but 23456, or 65,536 to 4,294,967,294
+abbrev pub asnTests : ℕ → List Bool
+asnTests asn = eqb asn 0 ∷ eqb asn standInAsn ∷ eqb asn lastTwoByteAsn ∷ ltb lastAsn asn ∷ []
+
+-- router below n; neighbour AS in its range; local preference any; path length 1 to 65,535; origin 0 to 2; MED mark 0 or 1, and with
 -- mark 0 the four MED bytes are 0; neighbour id and peer address not 0
 abbrev pub routeTests : ℕ → Route → List Bool
 routeTests n r =
     leb n (r .router)
-    ∷ eqb (r .asn) 0
-    ∷ ltb lastAsn (r .asn)
+    ∷ anyOf (asnTests (r .asn))
     ∷ eqb (r .path) 0
     ∷ ltb longestPath (r .path)
     ∷ ltb lastOrigin (r .origin)

@@ -6,10 +6,10 @@ use mathlib.Core.List.{List, [], _∷_, _++_}
 use lib.ListN.{length, getD, drop}
 use lib.Dec.{leb, ltb, eqb}
 use Rattle.refusal.specs.declared.Refusal.{Refusal}
-use Rattle.refusal.specs.declared.Refusal.the-variants.{Cut, Kind, Place, Full, Tail}
+use Rattle.refusal.specs.declared.Refusal.the-variants.{Cut, Kind, Place, Field, Full, Tail}
 use Rattle.model.specs.Decision.{Route}
 use Rattle.snapshot.specs.Limits.{mostPrefixes, mostInPrefix, mostRoutes}
-use Rattle.snapshot.specs.Records.{Form, countForm, routerForm, distanceForm, prefixForm, routeForm, endForm, forms, size, known, kind, values}
+use Rattle.snapshot.specs.Records.{Form, Forms, countForm, routerForm, distanceForm, prefixForm, routeForms, endForm, forms, only, stands, size, known, kind, values, formIn, sizeIn, valuesIn}
 use Rattle.snapshot.specs.Format.{Prefix, Snapshot, Pair, pairs, routesIn, records, Check, _else_, judged, countChecks, routerChecks, distanceChecks, prefixChecks, routeChecks, endChecks}
 
 -- what reading answers: what was read, or a refusal and its place
@@ -27,15 +27,17 @@ isNil [] = true
 isNil (b ∷ bs) = false
 
 -- the checks of every record of a file with this table of kinds, in their order: CUT for the kind byte, KIND, PLACE, FULL, CUT for
--- the body, those of the values. `extra` are those of PLACE and FULL that only some kinds have, `checks` those of the values
-unfoldable pub recordChecks : List Form → Form → List Check → (List ℕ → List Check) → List ℕ → List Check
-recordChecks table f extra checks bs =
+-- the body, FIELD where its values are to be in another form, then those of the values. `fs` are the forms that may stand here,
+-- `extra` the checks of PLACE and FULL that only some kinds have, `checks` those of the values
+unfoldable pub recordChecks : List Form → Forms → List Check → (List ℕ → List Check) → List ℕ → List Check
+recordChecks table fs extra checks bs =
     (not (isNil bs) else Cut)
     ∷ (known table (kind bs) else Kind)
-    ∷ (eqb (kind bs) (f .kind) else Place)
+    ∷ (stands fs (kind bs) else Place)
     ∷ extra
-    ++ ((leb (size f) (length bs) else Cut)
-    ∷ checks (values f bs))
+    ++ ((leb (sizeIn fs bs) (length bs) else Cut)
+    ∷ (eqb (formIn fs bs .kind) (fs .chosen (valuesIn fs bs) .kind) else Field)
+    ∷ checks (valuesIn fs bs))
 
 -- go on, unless a check of the record at a place fails
 abbrev pub unless : {A : Type 0} → List Check → ℕ → (Unit {0} → AnswerOf A) → AnswerOf A
@@ -96,7 +98,7 @@ prefixValues s v = prefixChecks (s .prefixes) (getD v 0 0) (getD v 1 0)
 
 -- the checks of a prefix record
 unfoldable pub prefixRecord : Snapshot → List ℕ → List Check
-prefixRecord s = recordChecks forms prefixForm (prefixExtra s) (prefixValues s)
+prefixRecord s = recordChecks forms (only prefixForm) (prefixExtra s) (prefixValues s)
 
 -- PLACE: a route stands behind a prefix. FULL: a prefix's 257th route, or a 1,025th route in all; where there are so many prefixes, routes
 -- of the latest, and routes in all
@@ -117,7 +119,7 @@ routeValues s v = routeChecks (length (s .ids)) (openRoutes (s .prefixes)) (rout
 
 -- the checks of a route record
 unfoldable pub routeRecord : Snapshot → List ℕ → List Check
-routeRecord s = recordChecks forms routeForm (routeExtra s) (routeValues s)
+routeRecord s = recordChecks forms routeForms (routeExtra s) (routeValues s)
 
 -- the check of the end record's value, with so many records before it
 abbrev pub endValues : ℕ → List ℕ → List Check
@@ -125,7 +127,7 @@ endValues before v = endChecks before (getD v 0 0)
 
 -- the checks of the end record
 unfoldable pub endRecord : List Form → ℕ → List ℕ → List Check
-endRecord table before = recordChecks table endForm [] (endValues before)
+endRecord table before = recordChecks table (only endForm) [] (endValues before)
 
 -- after the end record: nothing
 abbrev pub tail : {A : Type 0} → A → ℕ → List ℕ → AnswerOf A
@@ -136,7 +138,7 @@ tail s at (b ∷ bs) = refused Tail at
 unfoldable pub item : Snapshot → ℕ → List ℕ → (Unit {0} → Answer) → (Unit {0} → Answer) → Answer
 item s at bs afterPrefix afterRoute =
     either (eqb (kind bs) (prefixForm .kind)) (λ _. unless (prefixRecord s bs) at afterPrefix) λ _.
-    either (eqb (kind bs) (routeForm .kind)) (λ _. unless (routeRecord s bs) at afterRoute) λ _.
+    either (stands routeForms (kind bs)) (λ _. unless (routeRecord s bs) at afterRoute) λ _.
     unless (endRecord forms (records s) bs) at λ _. tail s (at + size endForm) (drop (size endForm) bs)
 
 -- what was read so far, with the prefix of the record at the front
@@ -145,7 +147,7 @@ withPrefix s bs = withPrefixes s (s .prefixes ++ (prefixOf (values prefixForm bs
 
 -- what was read so far, with the route of the record at the front
 abbrev pub withRoute : Snapshot → List ℕ → Snapshot
-withRoute s bs = withPrefixes s (addRoute (s .prefixes) (routeOf (values routeForm bs)))
+withRoute s bs = withPrefixes s (addRoute (s .prefixes) (routeOf (valuesIn routeForms bs)))
 
 -- there are no more items than bytes: the count ends the recursion, and `items-step` of SectionsLaws.antt is the equation to go by
 unfoldable pub itemsWithin : ℕ → Snapshot → ℕ → List ℕ → Answer
@@ -153,7 +155,7 @@ itemsWithin zero s at bs = refused Cut at
 itemsWithin (suc count) s at bs =
     item s at bs
     (λ _. itemsWithin count (withPrefix s bs) (at + size prefixForm) (drop (size prefixForm) bs))
-    (λ _. itemsWithin count (withRoute s bs) (at + size routeForm) (drop (size routeForm) bs))
+    (λ _. itemsWithin count (withRoute s bs) (at + sizeIn routeForms bs) (drop (sizeIn routeForms bs) bs))
 
 -- the items from a place on
 unfoldable pub items : Snapshot → ℕ → List ℕ → Answer
@@ -167,7 +169,7 @@ distanceValues n due v = distanceChecks n due (getD v 0 0) (getD v 1 0) (getD v 
 
 -- the checks of a distance record
 unfoldable pub distanceRecord : ℕ → Pair → List ℕ → List Check
-distanceRecord n due = recordChecks forms distanceForm [] (distanceValues n due)
+distanceRecord n due = recordChecks forms (only distanceForm) [] (distanceValues n due)
 
 -- the distances from a place on, and then the items
 unfoldable pub distances : List Pair → List ℕ → List ℕ → ℕ → List ℕ → Answer
@@ -184,7 +186,7 @@ routerValues n ids v = routerChecks n ids (getD v 0 0) (getD v 1 0)
 
 -- the checks of a router record
 unfoldable pub routerRecord : ℕ → List ℕ → List ℕ → List Check
-routerRecord n ids = recordChecks forms routerForm [] (routerValues n ids)
+routerRecord n ids = recordChecks forms (only routerForm) [] (routerValues n ids)
 
 -- the routers from a place on, and then the distances
 unfoldable pub routers : ℕ → ℕ → List ℕ → ℕ → List ℕ → Answer
@@ -201,7 +203,7 @@ countValues v = countChecks (getD v 0 0)
 
 -- the checks of the count record
 unfoldable pub countRecord : List ℕ → List Check
-countRecord = recordChecks forms countForm [] countValues
+countRecord = recordChecks forms (only countForm) [] countValues
 
 -- one kind 1; n of kind 2; n(n-1) of kind 3; any number of prefixes with their routes; one kind 6; then nothing
 unfoldable pub reading : List ℕ → Answer

@@ -1,16 +1,17 @@
 -- The laws of records, each over any widths: what is written is read back, and what is read is written back.
 use Prim.Native.Nat.{ℕ, suc, _+_, _^_, _≤_, _<_}
 use native.Mathlib.Omega.{arith}
-use mathlib.Core.Path.{_≡_, refl, sym, ap, ap₂, _∙_}
+use mathlib.Core.Path.{_≡_, refl, sym, ap, ap₂, _∙_, subst}
+use mathlib.Core.Bool.{Bool, true, false, cond}
 use mathlib.Core.List.{List, [], _∷_, _++_, append-assoc}
-use lib.ListN.{length, take, drop, length-append, length-drop, take-append-drop}
+use lib.ListN.{length, getD, take, drop, length-append, length-drop, take-append-drop}
 use lib.Seq.{drop-at, drop-drop}
 use lib.Dec.{T, leb, ltb, eqb, leb→le, eqb→eq}
 use lib.Pow.{areBytes}
 use mir.Facts.{yes-and}
 use Rattle.wire.specs.Numbers.{bytesOf, numberAt}
 use Rattle.wire.specs.NumbersLaws.{length-bytes, number-bytes, bytes-number, number-small, number-drop, number-take, bytes-of, bytes-append, bytes-drop}
-use Rattle.snapshot.specs.Records.{Form, sum, size, spread, fields, Fits, written, valuesAt, kind, values}
+use Rattle.snapshot.specs.Records.{Form, Forms, forms, only, two, routeForm, fourByteRouteForm, fourByte, routeFormBy, routeForms, formOf, stands, known, sum, size, spread, fields, Fits, written, writtenIn, valuesAt, kind, values, formIn, sizeIn, valuesIn}
 
 -- a number at the front of what is left
 number-at : (w : ℕ) (bs : List ℕ) (k : ℕ) → numberAt w bs (0 + k) ≡ numberAt w (drop k bs) 0
@@ -59,6 +60,9 @@ fields-spread (w ∷ ws) (v ∷ vs) front rest k l h =
     ∙ fields-spread ws vs (front ++ bytesOf w v) rest (k + w) l′ (h .1))
 
 module _ (f : Form) (vs rest : List ℕ) (h : Fits (f .widths) vs) where
+  pub drop-written : drop (size f) (written f vs ++ rest) ≡ rest
+  drop-written = drop-at (written f vs) rest (size f) (ap suc (length-spread (f .widths) vs h))
+
   pub values-written : values f (written f vs ++ rest) ≡ vs
   values-written = fields-spread (f .widths) vs (f .kind ∷ []) rest 1 refl h
 
@@ -105,6 +109,49 @@ pub split-written : (f : Form) (bs : List ℕ) → T (areBytes bs) → T (eqb (k
     → bs ≡ written f (values f bs) ++ drop (size f) bs
 split-written f [] t k l = absurd (let z : suc (sum (f .widths)) ≤ 0 = leb→le (size f) 0 l in omega arith)
 split-written f (b ∷ bs) t k l = ap₂ {C = List ℕ} _∷_ (eqb→eq b (f .kind) k) (sym (values-spread f (b ∷ bs) t l))
+
+-- ---- records of several forms
+
+-- the form that values choose is found by its kind, and is in the table of kinds
+pub record Chosen (table : List Form) (fs : Forms) : Type 0 where
+  pub found : (vs : List ℕ) → formOf fs (fs .chosen vs .kind) ≡ fs .chosen vs
+  pub listed : (vs : List ℕ) → T (known table (fs .chosen vs .kind))
+
+pub only-chosen : (table : List Form) (f : Form) → T (known table (f .kind)) → Chosen table (only f)
+only-chosen table f k = record { found = λ vs. refl; listed = λ vs. k }
+
+-- what holds of both forms
+of-both : (usual other : Form) (P : Form → Type 0) → P usual → P other → (b : Bool) → P (cond b other usual)
+of-both usual other P u o true = o
+of-both usual other P u o false = u
+
+pub two-chosen : (table : List Form) (usual other : Form) (test : List ℕ → Bool)
+    → eqb (other .kind) (other .kind) ≡ true → eqb (usual .kind) (other .kind) ≡ false → T (known table (usual .kind)) → T (known table (other .kind))
+    → Chosen table (two usual other test)
+two-chosen table usual other test same apart u o = record {
+  found = λ vs. of-both usual other (λ f. cond (eqb (f .kind) (other .kind)) other usual ≡ f)
+      (ap (λ (b : Bool). cond b other usual) apart) (ap (λ (b : Bool). cond b other usual) same) (test vs);
+  listed = λ vs. of-both usual other (λ f. T (known table (f .kind))) u o (test vs);
+}
+
+-- and of both forms of a route
+pub of-routes : (P : Form → Type 0) → P routeForm → P fourByteRouteForm → (four : Bool) → P (routeFormBy four)
+of-routes P u o four = of-both routeForm fourByteRouteForm P u o four
+
+pub routes-chosen : Chosen forms routeForms
+routes-chosen = two-chosen forms routeForm fourByteRouteForm (λ vs. fourByte (getD vs 1 0)) refl refl tt tt
+
+-- a record of a form that its values choose has that form
+module _ (table : List Form) (fs : Forms) (c : Chosen table fs) (bs : List ℕ) (due : T (stands fs (kind bs))) (its : T (eqb (formIn fs bs .kind) (fs .chosen (valuesIn fs bs) .kind))) where
+  pub form-chosen : formIn fs bs ≡ fs .chosen (valuesIn fs bs)
+  form-chosen = ap (formOf fs) (eqb→eq (kind bs) (formIn fs bs .kind) due ∙ eqb→eq (formIn fs bs .kind) (fs .chosen (valuesIn fs bs) .kind) its) ∙ c .found (valuesIn fs bs)
+
+  module _ (t : T (areBytes bs)) (l : T (leb (sizeIn fs bs) (length bs))) where
+    pub split-in : bs ≡ writtenIn fs (valuesIn fs bs) ++ drop (sizeIn fs bs) bs
+    split-in = split-written (formIn fs bs) bs t due l ∙ ap (λ (f : Form). written f (valuesIn fs bs) ++ drop (sizeIn fs bs) bs) form-chosen
+
+    pub fits-in : Fits (fs .chosen (valuesIn fs bs) .widths) (valuesIn fs bs)
+    fits-in = subst (λ (f : Form). Fits (f .widths) (valuesIn fs bs)) form-chosen (fits-values (formIn fs bs) bs t l)
 
 -- ---- bytes
 

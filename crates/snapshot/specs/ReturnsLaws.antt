@@ -2,35 +2,22 @@
 use Prim.Native.Nat.{ℕ, suc, _+_, _-_, _*_, _^_, _≤_, _<_}
 use native.Mathlib.Nat.{mul-le-mul}
 use native.Mathlib.Omega.{arith}
-use mathlib.Core.Path.{_≡_, refl, sym, ap, _∙_, subst}
+use mathlib.Core.Path.{_≡_, refl, sym, ap, ap₂, _∙_}
 use mathlib.Core.List.{List, [], _∷_, _++_, append-assoc, append-nil}
 use lib.ListN.{length, getD}
-use lib.Dec.{T, leb, lt→ltb, le→leb, eqb-refl}
+use lib.Dec.{leb, lt→ltb, eqb-refl}
 use borrow.Author.Tests.{ltb-false, lt-leb}
 use Rattle.model.specs.Decision.{Route}
 use Rattle.snapshot.specs.Limits.{mostRouters, farthest, mostPrefixes, mostBits, mostInPrefix, mostRoutes}
 use Rattle.snapshot.specs.Ranges.{idTests, distanceTests, prefixTests}
 use Rattle.snapshot.specs.RangesLaws.{none-at, none-cons}
-use Rattle.snapshot.specs.Records.{Form, countForm, routerForm, distanceForm, prefixForm, routeForm, endForm, written, kind, forms, size, known, Fits}
-use Rattle.snapshot.specs.RecordsLaws.{values-written, length-written}
-use Rattle.snapshot.specs.Format.{Prefix, Snapshot, Pair, pairs, Check, Holds, Each, GoodId, GoodDistance, GoodRoute, GoodPrefix, Valid, records, routesIn, routesBytes, routersBytes, distancesBytes, prefixesBytes, routeFields, encode}
-use Rattle.snapshot.specs.Reading.{Answer, accepted, openRoutes, addRoute, prefixOf, routeOf, recordChecks, prefixExtra, prefixValues, prefixRecord, routeExtra, routeValues, routeRecord, endValues, endRecord, items, distanceValues, distanceRecord, distances, routerValues, routerRecord, routers, countValues, countRecord, reading}
-use Rattle.snapshot.specs.ChecksLaws.{judged-passed, passing, count-range, length-snoc, snoc-some, routesIn-append}
+use Rattle.snapshot.specs.Records.{countForm, routerForm, distanceForm, prefixForm, routeForms, endForm, forms, only, written, writtenIn, Fits, sizeIn}
+use Rattle.snapshot.specs.RecordsLaws.{values-written, only-chosen, routes-chosen}
+use Rattle.snapshot.specs.Format.{Prefix, Snapshot, Pair, pairs, Each, GoodId, GoodDistance, GoodRoute, GoodPrefix, Valid, records, routesIn, routesBytes, routersBytes, distancesBytes, prefixesBytes, routeFields, encode}
+use Rattle.snapshot.specs.Reading.{Answer, accepted, openRoutes, addRoute, prefixOf, routeOf, prefixExtra, prefixValues, prefixRecord, routeExtra, routeValues, routeRecord, endValues, endRecord, items, distanceValues, distanceRecord, distances, routerValues, routerRecord, routers, countValues, countRecord, reading}
+use Rattle.snapshot.specs.ChecksLaws.{judged-passed, stands-back, values-back, drop-back, record-passes, count-range, length-snoc, snoc-some, routesIn-append}
 use Rattle.snapshot.specs.SectionsLaws.{items-prefix, items-route, items-end}
 use Rattle.snapshot.specs.PairsLaws.{AllTwo, pairs-two, pairs-length}
-
--- ---- a record that was written passes its checks
-
-pub record-passes : (table : List Form) (f : Form) (extra : List Check) (checks : List ℕ → List Check) (vs rest : List ℕ) → T (known table (f .kind))
-    → Fits (f .widths) vs → Holds extra → Holds (checks vs) → Holds (recordChecks table f extra checks (written f vs ++ rest))
-record-passes table f extra checks vs rest some fit free h =
-    passing table f extra checks (written f vs ++ rest) tt some
-    (record {
-      due = eqb-refl (f .kind);
-      free = free;
-      whole = le→leb (size f) _ (rw (length-written f vs rest fit) (omega arith));
-      good = subst (λ (v : List ℕ). Holds (checks v)) (sym (values-written f vs rest fit)) h;
-    })
 
 -- ---- prefixes and their routes
 
@@ -61,23 +48,28 @@ module _ (ids ds : List ℕ) where
     unfolding routeRecord
     routes-back a before [] at rest few all good next = rw (← append-nil before) (next at)
     routes-back a before (r ∷ rs) at rest few all good next =
-        let bs : List ℕ = written routeForm (routeFields r) ++ (routesBytes rs ++ rest) in
+        let vs : List ℕ = routeFields r in
+        let more : List ℕ = routesBytes rs ++ rest in
+        let bs : List ℕ = writtenIn routeForms vs ++ more in
+        let fit : Fits (routeForms .chosen vs .widths) vs = good .0 .fits in
         let s : Snapshot = S (opened before) in
         let n : ℕ = length ids in
         let here : openRoutes (opened before) ≡ before = open-last done _ in
         let count : routesIn (opened before) ≡ routesIn done + length before = routesIn-append done _ ∙ (let q : routesIn done + (length before + 0) ≡ routesIn done + length before = omega arith in q) in
-        items-route s at bs refl
+        let after : ℕ = at + sizeIn routeForms bs in
+        ap (items s at) (append-assoc (writtenIn routeForms vs) (routesBytes rs) rest)
+        ∙ items-route s at bs (stands-back forms routeForms routes-chosen vs more fit)
         ∙ judged-passed (routeRecord s bs) _ _
-        (record-passes forms routeForm (routeExtra s) (routeValues s) (routeFields r) (routesBytes rs ++ rest) tt (good .0 .fits) (
+        (record-passes forms routeForms routes-chosen vs more fit (routeExtra s) (routeValues s) (
           snoc-some done _,
           (rw here (lt→ltb (length before) mostInPrefix (omega arith)), (rw count (lt→ltb (routesIn done + length before) mostRoutes (omega arith)), tt)),
         )
         (rw here (good .0 .obeys)))
-        ∙ ap (λ (v : List ℕ). items (S (addRoute (opened before) (routeOf v))) (at + 24) (routesBytes rs ++ rest))
-        (values-written routeForm (routeFields r) (routesBytes rs ++ rest) (good .0 .fits))
-        ∙ ap (λ (ps : List Prefix). items (S ps) (at + 24) (routesBytes rs ++ rest)) (add-last done _ r)
+        ∙ ap₂ (λ (v l : List ℕ). items (S (addRoute (opened before) (routeOf v))) after l)
+        (values-back forms routeForms routes-chosen vs more fit) (drop-back forms routeForms routes-chosen vs more fit)
+        ∙ ap (λ (ps : List Prefix). items (S ps) after more) (add-last done _ r)
         ∙ (let l = length-snoc before r in
-        routes-back a (before ++ (r ∷ [])) rs (at + 24) rest (omega arith) (omega arith) (good .1) (λ at′. rw append-assoc (next at′)))
+        routes-back a (before ++ (r ∷ [])) rs after rest (omega arith) (omega arith) (good .1) (λ at′. rw append-assoc (next at′)))
 
   module _ (all : List Prefix) (small : records (S all) < 256 ^ 4) where
     prefixes-back : (done ps : List Prefix) (at : ℕ)
@@ -89,9 +81,9 @@ module _ (ids ds : List ℕ) where
         let s : Snapshot = S done in
         let same : done ≡ all = sym (append-nil done) ∙ is in
         let bs : List ℕ = written endForm (records (S all) ∷ []) in
-        items-end s at bs (omega arith) (omega arith)
+        items-end s at bs (omega arith) tt
         ∙ judged-passed (endRecord forms (records s) bs) _ _
-        (record-passes forms endForm [] (endValues (records s)) (records (S all) ∷ []) [] tt (small, tt) tt (rw same (eqb-refl (records (S all))), tt))
+        (record-passes forms (only endForm) (only-chosen forms endForm tt) (records (S all) ∷ []) [] (small, tt) [] (endValues (records s)) tt (rw same (eqb-refl (records (S all))), tt))
         ∙ ap (λ (ps : List Prefix). accepted (S ps)) same
     prefixes-back done (p ∷ ps) at is few routes good =
         let s : Snapshot = S done in
@@ -105,7 +97,7 @@ module _ (ids ds : List ℕ) where
         ap (λ (l : List ℕ). items s at (written prefixForm vs ++ l)) (append-assoc (routesBytes (p .routes)) (prefixesBytes ps) end)
         ∙ items-prefix s at bs refl
         ∙ judged-passed (prefixRecord s bs) _ _
-        (record-passes forms prefixForm (prefixExtra s) (prefixValues s) vs rest tt fit (lt→ltb (length done) mostPrefixes (omega arith), tt) (good .0 .obeys))
+        (record-passes forms (only prefixForm) (only-chosen forms prefixForm tt) vs rest fit (prefixExtra s) (prefixValues s) (lt→ltb (length done) mostPrefixes (omega arith), tt) (good .0 .obeys))
         ∙ ap (λ (v : List ℕ). items (S (done ++ (prefixOf v ∷ []))) (at + 6) rest) (values-written prefixForm vs rest fit)
         ∙ routes-back done (p .address) (p .bits) (accepted (S all)) [] (p .routes) (at + 6) (prefixesBytes ps ++ end)
         (omega arith) (omega arith) (good .0 .routes)
@@ -134,7 +126,7 @@ module _ (ids : List ℕ) (few : length ids ≤ mostRouters) where
       let to : p .to < length ids = of .0 .to in
       let fit : Fits (distanceForm .widths) vs = (omega arith, (omega arith, (omega arith, tt))) in
       judged-passed (distanceRecord (length ids) p (written distanceForm vs ++ after)) _ _
-      (record-passes forms distanceForm [] (distanceValues (length ids) p) vs after tt fit tt
+      (record-passes forms (only distanceForm) (only-chosen forms distanceForm tt) vs after fit [] (distanceValues (length ids) p) tt
       (none-cons (leb (length ids) (p .to) ∷ distanceTests d) (lt-leb (length ids) (p .from) from) (none-cons (distanceTests d) (lt-leb (length ids) (p .to) to) (good .0)), (eqb-refl (p .from), (eqb-refl (p .to), tt))))
       ∙ ap (λ (v : List ℕ). distances due ids (ds ++ (getD v 2 0 ∷ [])) (at + 7) after) (values-written distanceForm vs after fit)
       ∙ distances-back a due (ds ++ (d ∷ [])) more (at + 7) rest (of .1) (omega arith) (good .1) (λ at′. rw append-assoc (next at′))
@@ -153,7 +145,7 @@ module _ (n : ℕ) (few : n ≤ mostRouters) where
       let after : List ℕ = routersBytes (suc (length ids)) more ++ rest in
       let fit : Fits (routerForm .widths) vs = (omega arith, (good .0 .fits, tt)) in
       judged-passed (routerRecord n ids (written routerForm vs ++ after)) _ _
-      (record-passes forms routerForm [] (routerValues n ids) vs after tt fit tt
+      (record-passes forms (only routerForm) (only-chosen forms routerForm tt) vs after fit [] (routerValues n ids) tt
       (none-cons (idTests x) (lt-leb n (length ids) (omega arith)) (good .0 .ranges), (eqb-refl (length ids), (good .0 .alone, tt))))
       ∙ ap (λ (v : List ℕ). routers n (length more) (ids ++ (getD v 1 0 ∷ [])) (at + 6) after) (values-written routerForm vs after fit)
       ∙ ap (λ (i : ℕ). routers n (length more) (ids ++ (x ∷ [])) (at + 6) (routersBytes i more ++ rest)) (sym (length-snoc ids x))
@@ -185,7 +177,7 @@ reading-back s v =
     let regroup : encode s ≡ written countForm (n ∷ []) ++ rest = simp append-assoc in
     ap reading regroup
     ∙ judged-passed (countRecord (written countForm (n ∷ []) ++ rest)) _ _
-    (record-passes forms countForm [] countValues (n ∷ []) rest tt fit tt (v .count, tt))
+    (record-passes forms (only countForm) (only-chosen forms countForm tt) (n ∷ []) rest fit [] countValues tt (v .count, tt))
     ∙ ap (λ (vs : List ℕ). routers (getD vs 0 0) (getD vs 0 0) [] 2 rest) (values-written countForm (n ∷ []) rest fit)
     ∙ routers-back n few (accepted s) [] ids 2 second (omega arith) (v .ids)
     (λ at. distances-back ids few (accepted s) (pairs n) [] (s .distances) at third (pairs-two n)

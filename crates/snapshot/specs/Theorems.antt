@@ -36,7 +36,7 @@ tells = written.encode-injective
 pub bytes : (s : Snapshot) → T (areBytes (encode s))
 bytes = written.encode-bytes
 
--- "The longest snapshot is therefore 53,575 bytes": none is longer,
+-- "The longest snapshot is therefore 55,623 bytes": none is longer,
 pub none-longer : (s : Snapshot) → Valid s → length (encode s) ≤ longest
 none-longer = written.encode-short
 
@@ -44,7 +44,7 @@ none-longer = written.encode-short
 pub one-as-long : Valid fullSnapshot × (length (encode fullSnapshot) ≡ longest)
 one-as-long = (full-valid, full-long)
 
--- "and the first 53,576 bytes of an input decide its answer"
+-- "and the first 55,624 bytes of an input decide its answer"
 pub first-bytes-decide : (bs : List ℕ) → reading bs ≡ reading (take (suc longest) bs)
 first-bytes-decide = reading-take
 

@@ -2,7 +2,8 @@
 // of its ranges and of the tables' room, which reading and the judging of tables share.
 ghost use mathlib.Core.Path.{_≡_};
 ghost use mathlib.Core.Bool.{not};
-ghost use Rattle.snapshot.specs.Ranges.{anyOf, countTests, idTests, distanceTests, prefixTests, routeTests, rises};
+ghost use Rattle.snapshot.specs.Ranges.{anyOf, countTests, idTests, distanceTests, prefixTests, asnTests, routeTests, rises};
+ghost use Rattle.snapshot.specs.Records.{fourByte, routeFormBy, routeForms, stands, size};
 ghost use Rattle.snapshot.specs.Plain.{routeIs};
 ghost use Rattle.snapshot.specs.Tables.{shortLengths};
 
@@ -23,11 +24,18 @@ pub const MOST_IN_PREFIX: u32 = 256;
 
 pub const MOST_ROUTES: u32 = 1024;
 
-pub const LAST_ASN: u32 = 65534;
+pub const STAND_IN_ASN: u32 = 23456;
+
+pub const LAST_TWO_BYTE_ASN: u32 = 65535;
+
+pub const LAST_ASN: u32 = 4294967294;
 
 pub const LONGEST_PATH: u32 = 65535;
 
 pub const LAST_ORIGIN: u32 = 2;
+
+// The bytes of the longest snapshot; of a longer input so many and one more decide.
+pub const LONGEST: usize = 55623;
 
 // The bytes of a record of each kind, its kind byte among them.
 pub const COUNT_SIZE: usize = 2;
@@ -39,6 +47,8 @@ pub const DISTANCE_SIZE: usize = 7;
 pub const PREFIX_SIZE: usize = 6;
 
 pub const ROUTE_SIZE: usize = 24;
+
+pub const FOUR_BYTE_ROUTE_SIZE: usize = 26;
 
 pub const END_SIZE: usize = 5;
 
@@ -93,13 +103,51 @@ pub fn prefix_bad(address: u32, bits: u32) -> bool
     (address as u64) % (1u64 << (MOST_BITS - bits)) != 0
 }
 
+// Whether an AS is past those of two bytes: its routes have records of kind 7.
+pub fn four_byte(asn: u32) -> bool
+    ensures { λ b. ⌜ b ≡ fourByte asn ⌝ }
+{
+    LAST_TWO_BYTE_ASN < asn
+}
+
+// The kind of a route's record, by whether its AS is past those of two bytes.
+pub fn route_kind(four: bool) -> u8
+    ensures { λ k. ⌜ k ≡ routeFormBy four .kind ⌝ }
+{
+    if four { 7 } else { 5 }
+}
+
+// Whether a kind is a route's.
+pub fn route_stands(kind: u8) -> bool
+    ensures { λ b. ⌜ b ≡ stands routeForms kind ⌝ }
+{
+    kind == route_kind(kind == 7)
+}
+
+// The size of a route's record.
+pub fn route_size(four: bool) -> usize
+    ensures { λ n. ⌜ n ≡ size (routeFormBy four) ⌝ }
+{
+    if four {
+        FOUR_BYTE_ROUTE_SIZE
+    } else {
+        ROUTE_SIZE
+    }
+}
+
+// Whether a neighbour AS is outside its range.
+pub fn asn_bad(asn: u32) -> bool
+    ensures { λ b. ⌜ b ≡ anyOf (asnTests asn) ⌝ }
+{
+    (asn == 0) | (asn == STAND_IN_ASN) | (asn == LAST_TWO_BYTE_ASN) | (LAST_ASN < asn)
+}
+
 // Whether a field of a route is outside its range, where there are so many routers.
 pub fn route_bad(routers: u32, r: Route) -> bool
     ensures { λ b. ⌜ b ≡ anyOf (routeTests routers (routeIs r)) ⌝ }
 {
     (routers <= r.router)
-        | (r.asn == 0)
-        | (LAST_ASN < r.asn)
+        | asn_bad(r.asn)
         | (r.path == 0)
         | (LONGEST_PATH < r.path)
         | (LAST_ORIGIN < r.origin)
