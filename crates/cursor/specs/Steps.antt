@@ -5,13 +5,14 @@ use mathlib.Core.Bool.{Bool, false, cond, not, _&&_}
 use mathlib.Core.List.{List, [], _∷_, _++_}
 use lib.ListN.{length, getD}
 use lib.Dec.{ltb, eqb}
+use Rattle.wire.specs.Numbers.{numberAt}
 use Rattle.refusal.specs.declared.Refusal.the-variants.{Cut, Kind, Place, Full, Field, Order, Tail}
 use Rattle.refusal.specs.Numbers.{Said, refuses, gives}
 use Rattle.snapshot.specs.declared.Route.{Route}
 use Rattle.model.specs.Rows.{table}
 use Rattle.model.specs.Decision as model
 use Rattle.snapshot.specs.Ranges.{none, prefixTests, routeTests, rises, risesRoute}
-use Rattle.snapshot.specs.Records.{Form, forms, ofKind, known, sum, size, routerForm, prefixForm, routeForm, endForm, valuesAt}
+use Rattle.snapshot.specs.Records.{Form, forms, ofKind, known, sum, size, only, routerForm, prefixForm, routeForms, fourByte, routeFormBy, endForm, valuesAt}
 use Rattle.snapshot.specs.Format.{Pair, Snapshot, routesIn, latest, Check, _else_, judged}
 use Rattle.snapshot.specs.Reading.{recordChecks, openRoutes, routeOf, prefixRoom, routeRoom, endValues}
 use Rattle.cursor.specs.declared.Finding.{Finding}
@@ -107,13 +108,17 @@ routeFaults k r =
     ∷ (not (lateBehind (k .inside) (k .router) (k .peer) (r .router) (r .peer)) else Order)
     ∷ []
 
+-- the checks of a route's values in a record of a kind: that they choose it comes first
+abbrev pub routeFaultsIn : Sofar → ℕ → model.Route → List Check
+routeFaultsIn k kind r = (eqb kind (routeFormBy (fourByte (r .asn)) .kind) else Field) ∷ routeFaults k r
+
 -- the checks of a prefix record, by what is known of those before it
 unfoldable pub prefixNext : Sofar → List ℕ → List Check
-prefixNext k = recordChecks forms prefixForm (prefixRoom (k .prefixes)) (λ v. prefixFaults k (getD v 0 0) (getD v 1 0))
+prefixNext k = recordChecks forms (only prefixForm) (prefixRoom (k .prefixes)) (λ v. prefixFaults k (getD v 0 0) (getD v 1 0))
 
 -- the checks of a route record, by what is known of those before it
 unfoldable pub routeNext : Sofar → List ℕ → List Check
-routeNext k = recordChecks forms routeForm (routeRoom (k .prefixes) (k .inside) (k .routes)) (λ v. routeFaults k (routeOf v))
+routeNext k = recordChecks forms routeForms (routeRoom (k .prefixes) (k .inside) (k .routes)) (λ v. routeFaults k (routeOf v))
 
 -- the id of the router record at a place
 abbrev pub idAt : List ℕ → ℕ → ℕ
@@ -131,9 +136,27 @@ idsAt bs first n = table n (λ i. idAt bs (routerPlace first i))
 abbrev pub networkAt : List ℕ → ℕ → Network
 networkAt bs at = let v = valuesAt prefixForm bs at in record { address = getD v 0 0; bits = getD v 1 0 }
 
--- the route of the record at a place
-abbrev pub routeAt : List ℕ → ℕ → Route
-routeAt bs at = let v = valuesAt routeForm bs at in record {
+-- how many bits of the four bytes from a route's neighbour AS on stand behind it
+abbrev pub bitsBehind : Bool → ℕ
+bitsBehind four = cond four 0 16
+
+-- the route of a router and a neighbour AS whose other fields stand from a place on
+abbrev pub routeBehind : List ℕ → ℕ → ℕ → ℕ → Route
+routeBehind bs at router asn = record {
+  router = router;
+  asn = asn;
+  preference = numberAt 4 bs at;
+  path = numberAt 2 bs (at + 4);
+  origin = numberAt 1 bs (at + 6);
+  mark = numberAt 1 bs (at + 7);
+  med = numberAt 4 bs (at + 8);
+  nid = numberAt 4 bs (at + 12);
+  peer = numberAt 4 bs (at + 16);
+}
+
+-- the route of the record at a place, in its form for ASes of four bytes or of two
+abbrev pub routeAt : List ℕ → ℕ → Bool → Route
+routeAt bs at four = let v = valuesAt (routeFormBy four) bs at in record {
   router = getD v 0 0;
   asn = getD v 1 0;
   preference = getD v 2 0;

@@ -1,18 +1,22 @@
 -- What the cursor's methods rest on: a record is judged by its opening, then by its values.
-use Prim.Native.Nat.{ℕ, suc, _+_, _-_, _≤_, _<_}
+use Prim.Native.Nat.{ℕ, suc, _+_, _-_, _/_, _^_, _≤_, _<_}
+use native.Mathlib.Nat.{add-assoc, div-one}
 use native.Mathlib.Omega.{arith}
 use native.Mathlib.Decide.{decLe}
 use mathlib.Core.Path.{_≡_, refl, sym, ap, ap₂, _∙_, subst, fun-ext}
 use mathlib.Core.Bool.{Bool, true, false, cond, not, _||_}
 use mathlib.Core.List.{List, [], _∷_, _++_}
 use lib.ListN.{length, getD, drop}
-use lib.Dec.{leb, ltb, eqb, ltb→lt, eqb→eq}
+use lib.Dec.{leb, ltb, eqb, ltb→lt, eqb→eq, lit≤}
 use borrow.Author.Tests.{le-leb, lt-leb, lt-ltb, le-ltb}
+use Rattle.wire.specs.Numbers.{numberAt}
+use Rattle.wire.specs.NumbersLaws.{number-2, number-4}
 use Rattle.refusal.specs.declared.Refusal.{Refusal}
 use Rattle.refusal.specs.declared.Refusal.the-variants.{Cut, Kind, Place, Full, Field, Order}
 use Rattle.snapshot.specs.Limits.{mostPrefixes, mostInPrefix, mostRoutes}
 use Rattle.snapshot.specs.Ranges.{none, prefixTests, routeTests}
-use Rattle.snapshot.specs.Records.{Form, forms, ofKind, sum, size, known, prefixForm, routeForm, endForm, valuesAt}
+use Rattle.snapshot.specs.Records.{Form, Forms, forms, ofKind, only, sum, size, known, prefixForm, routeForm, routeFormBy, routeForms, endForm, formAt, valuesAt}
+use Rattle.snapshot.specs.RecordsLaws.{of-routes}
 use Rattle.snapshot.specs.Format.{Snapshot, Check, _else_, judged, Holds}
 use Rattle.snapshot.specs.Reading.{recordChecks, prefixRoom, prefixRecord, routeRoom, routeExtra, routeRecord, routeOf, endValues, endRecord}
 use Rattle.snapshot.specs.ChecksLaws.{judged-append, judged-front}
@@ -21,8 +25,10 @@ use Rattle.cursor.specs.declared.Finding.{Finding}
 use Rattle.cursor.specs.declared.Finding.the-variants.{Clear, Fault}
 use Rattle.cursor.specs.declared.Body.{Body}
 use Rattle.cursor.specs.declared.Body.the-variants.{Bytes, Refused}
+use Rattle.cursor.specs.declared.Cursor.{Cursor}
 use Rattle.cursor.specs.declared.Sofar.{Sofar}
-use Rattle.cursor.specs.Steps.{finding, bodyOf, bodyLength, openingChecks, bodyChecks, openingBy, endBy, prefixNext, routeNext, Tells}
+use Rattle.cursor.specs.declared.RouteStep.the-variants as routeStep
+use Rattle.cursor.specs.Steps.{finding, bodyOf, bodyLength, openingChecks, bodyChecks, openingBy, endBy, prefixNext, routeNext, bitsBehind, routeBehind, routeAt, Tells, took, routeSaid}
 
 -- ---- findings
 
@@ -133,20 +139,24 @@ lt-as-le a b n = go (decLe (a + suc b) n)
 abbrev pub extraChecks : Bool → Bool → List Check
 extraChecks astray full = (not astray else Place) ∷ (not full else Full) ∷ []
 
-module _ {A : Type 0} (table : List Form) (bs : List ℕ) (at : ℕ) (f : Form) (extra : List Check) (astray full : Bool) (checks : List ℕ → List Check)
-    (stop : Refusal → A) (go : Unit {0} → A) (long : bodyLength table (f .kind) ≡ sum (f .widths))
+module _ {A : Type 0} (table : List Form) (bs : List ℕ) (at : ℕ) (fs : Forms) (extra : List Check) (astray full : Bool) (checks : List ℕ → List Check)
+    (stop : Refusal → A) (go : Unit {0} → A) (long : bodyLength table (formAt fs bs at .kind) ≡ sum (formAt fs bs at .widths))
     (same : (go : Unit {0} → A) → judged extra stop go ≡ judged (extraChecks astray full) stop go) where
+  abbrev f : Form
+  f = formAt fs bs at
+
   abbrev front : List Check
   front = (ltb at (length bs) else Cut) ∷ (known table (getD bs at 0) else Kind) ∷ (eqb (getD bs at 0) (f .kind) else Place) ∷ []
 
+  -- the checks of its values: that they choose its form, and its own
   abbrev body : List Check
-  body = checks (valuesAt f bs at)
+  body = (eqb (f .kind) (fs .chosen (valuesAt f bs at) .kind) else Field) ∷ checks (valuesAt f bs at)
 
   -- a record's judgement: its opening, then its values
-  pub record-found : judged (recordChecks table f extra checks (drop at bs)) stop go
-      ≡ onFinding stop (λ _. onFinding stop go (finding (checks (valuesAt f bs at)))) (finding (openingChecks table bs at (f .kind) astray full))
+  pub record-found : judged (recordChecks table fs extra checks (drop at bs)) stop go
+      ≡ onFinding stop (λ _. onFinding stop go (finding body)) (finding (openingChecks table bs at (f .kind) astray full))
   record-found =
-      ap (λ (c : List Check). judged c stop go) (record-at bs table f extra checks at)
+      ap (λ (c : List Check). judged c stop go) (record-at bs table fs extra checks at)
       ∙ judged-front front (extra ++ ((leb (at + size f) (length bs) else Cut) ∷ body)) (extraChecks astray full ++ ((ltb (at + bodyLength table (getD bs at 0)) (length bs) else Cut) ∷ body)) stop go go
       (λ h. judged-append extra _ stop go ∙ same _ ∙ sym (judged-append (extraChecks astray full) _ stop go)
       ∙ ap (λ (b : Bool). judged (extraChecks astray full ++ ((b else Cut) ∷ body)) stop go)
@@ -157,14 +167,14 @@ module _ {A : Type 0} (table : List Form) (bs : List ℕ) (at : ℕ) (f : Form) 
       ∙ ap (λ (x : A). onFinding stop (λ _. x) (finding (openingChecks table bs at (f .kind) astray full))) (judged-finding body stop go)
 
   -- it stops at its opening, or at its values, or it goes on
-  pub at-opening : {r : Refusal} → Fault r ≡ finding (openingChecks table bs at (f .kind) astray full) → stop r ≡ judged (recordChecks table f extra checks (drop at bs)) stop go
+  pub at-opening : {r : Refusal} → Fault r ≡ finding (openingChecks table bs at (f .kind) astray full) → stop r ≡ judged (recordChecks table fs extra checks (drop at bs)) stop go
   at-opening e = ap (onFinding stop (λ _. onFinding stop go (finding body))) e ∙ sym record-found
 
   module _ (clear : Clear ≡ finding (openingChecks table bs at (f .kind) astray full)) where
-    pub at-values : {r : Refusal} → Fault r ≡ finding (checks (valuesAt f bs at)) → stop r ≡ judged (recordChecks table f extra checks (drop at bs)) stop go
+    pub at-values : {r : Refusal} → Fault r ≡ finding body → stop r ≡ judged (recordChecks table fs extra checks (drop at bs)) stop go
     at-values e = ap (onFinding stop go) e ∙ ap (onFinding stop (λ _. onFinding stop go (finding body))) clear ∙ sym record-found
 
-    pub at-end : Clear ≡ finding (checks (valuesAt f bs at)) → go tt ≡ judged (recordChecks table f extra checks (drop at bs)) stop go
+    pub at-end : Clear ≡ finding body → go tt ≡ judged (recordChecks table fs extra checks (drop at bs)) stop go
     at-end e = ap (onFinding stop go) e ∙ ap (onFinding stop (λ _. onFinding stop go (finding body))) clear ∙ sym record-found
 
 -- no check of PLACE or FULL
@@ -194,7 +204,56 @@ module _ {A : Type 0} (body : Body) (records : ℕ) (bs : List ℕ) (at : ℕ) (
   unfolding endRecord
   end-table table long e =
       end-found ∙ ap (onFinding stop (λ _. onFinding stop go (finding number))) (opening-table bs at 6 false false table body e)
-      ∙ sym (record-found table bs at endForm [] false false (endValues records) stop go long (no-extra stop))
+      ∙ sym (record-found table bs at (only endForm) [] false false (endValues records) stop go long (no-extra stop))
+
+-- ---- the two forms of a route
+
+-- the shorter is kind 5's
+pub route-least : (four : Bool) → size routeForm ≤ size (routeFormBy four)
+route-least = of-routes (λ f. size routeForm ≤ size f) (lit≤ tt) (lit≤ tt)
+
+-- both bodies are in the table of kinds
+pub route-long : (four : Bool) → bodyLength forms (routeFormBy four .kind) ≡ sum (routeFormBy four .widths)
+route-long = of-routes (λ f. bodyLength forms (f .kind) ≡ sum (f .widths)) refl refl
+
+-- and a route says the values of its record
+pub route-says : (c : Cursor) (bs : List ℕ) (at : ℕ) (four : Bool) → routeSaid (routeStep.Took c (routeAt bs at four)) ≡ took c (valuesAt (routeFormBy four) bs at)
+route-says c bs at =
+    of-routes (λ f. let v = valuesAt f bs at in
+    took c (getD v 0 0 ∷ getD v 1 0 ∷ getD v 2 0 ∷ getD v 3 0 ∷ getD v 4 0 ∷ getD v 5 0 ∷ getD v 6 0 ∷ getD v 7 0 ∷ getD v 8 0 ∷ []) ≡ took c v) refl refl
+
+pub bits-few : (four : Bool) → bitsBehind four < 32
+bits-few true = lit≤ tt
+bits-few false = lit≤ tt
+
+-- the AS is what the bits behind it leave of four bytes
+pub asn-left : (bs : List ℕ) (at : ℕ) → ((k : ℕ) → getD bs k 0 < 256) → (four : Bool)
+    → numberAt 4 bs (at + 2) / 2 ^ bitsBehind four ≡ getD (valuesAt (routeFormBy four) bs at) 1 0
+asn-left bs at small true = div-one (numberAt 4 bs (at + 2))
+asn-left bs at small false =
+    let c = small (at + 2 + 2) in
+    let d = small (at + 2 + 3) in
+    let n = number-4 bs (at + 2) in
+    let m = number-2 bs (at + 2) in
+    omega arith
+
+-- the fields behind the AS are the last twenty bytes of both
+pub fields-behind : (bs : List ℕ) (at : ℕ) (four : Bool)
+    → routeBehind bs (at + (size (routeFormBy four) - 20)) (numberAt 1 bs (at + 1)) (getD (valuesAt (routeFormBy four) bs at) 1 0) ≡ routeAt bs at four
+fields-behind bs at =
+    of-routes (λ f. let v = valuesAt f bs at in
+    routeBehind bs (at + (size f - 20)) (numberAt 1 bs (at + 1)) (getD v 1 0)
+    ≡ record {
+      router = getD v 0 0;
+      asn = getD v 1 0;
+      preference = getD v 2 0;
+      path = getD v 3 0;
+      origin = getD v 4 0;
+      mark = getD v 5 0;
+      med = getD v 6 0;
+      nid = getD v 7 0;
+      peer = getD v 8 0;
+    }) (simp add-assoc) (simp add-assoc)
 
 -- ---- what is known of those before a prefix or a route
 
@@ -227,7 +286,7 @@ module _ {s : Snapshot} {k : Sofar} (t : Tells s k) where
   pub prefix-told : (bs : List ℕ) → prefixRecord s bs ≡ prefixNext k bs
   unfolding prefixRecord prefixNext
   prefix-told bs =
-      ap₂ (λ (n : ℕ) (values : List ℕ → List Check). recordChecks forms prefixForm (prefixRoom n) values bs)
+      ap₂ (λ (n : ℕ) (values : List ℕ → List Check). recordChecks forms (only prefixForm) (prefixRoom n) values bs)
       (sym (t .prefixes))
       (fun-ext (λ v. ap (λ (b : Bool). (none (prefixTests (getD v 0 0) (getD v 1 0)) else Field) ∷ (b else Order) ∷ []) (t .above (getD v 0 0) (getD v 1 0))))
 
@@ -237,5 +296,5 @@ module _ {s : Snapshot} {k : Sofar} (t : Tells s k) where
   pub route-told : (bs : List ℕ) → routeRecord s bs ≡ routeNext k bs
   unfolding routeRecord routeNext
   route-told bs =
-      ap₂ (λ (room : List Check) (values : List ℕ → List Check). recordChecks forms routeForm room values bs) room-told
+      ap₂ (λ (room : List Check) (values : List ℕ → List Check). recordChecks forms routeForms room values bs) room-told
       (fun-ext (λ v. ap₂ (λ (n : ℕ) (b : Bool). (none (routeTests n (routeOf v)) else Field) ∷ (b else Order) ∷ []) (sym (t .routers)) (t .beyond (routeOf v))))

@@ -9,7 +9,7 @@ ghost use lib.Dec.{eqb};
 ghost use lib.ListN.{length, getD, drop};
 ghost use Rattle.model.specs.Rows.{some};
 ghost use Rattle.snapshot.specs.Plain.{routeIs};
-ghost use Rattle.snapshot.specs.Records.{forms, countForm, routerForm, distanceForm, prefixForm, routeForm, valuesAt};
+ghost use Rattle.snapshot.specs.Records.{forms, countForm, routerForm, distanceForm, prefixForm, routeFormBy, routeForms, size, formAt, valuesAt};
 ghost use Rattle.snapshot.specs.Format.{countChecks, routerChecks, distanceChecks, endChecks};
 ghost use Rattle.snapshot.specs.Reading.{countRecord, routerRecord, distanceRecord, endRecord};
 ghost use Rattle.cursor.specs.declared.Finding.the-variants.{Fault};
@@ -24,13 +24,15 @@ ghost use Rattle.cursor.specs.Steps.{
   after,
   due,
   prefixFaults,
-  routeFaults,
+  routeFaultsIn,
   prefixNext,
   routeNext,
   idAt,
   routerPlace,
   idsAt,
   networkAt,
+  bitsBehind,
+  routeBehind,
   routeAt,
   took,
   stepSaid,
@@ -42,6 +44,9 @@ ghost use Rattle.cursor.specs.Steps.{
 };
 use refusal::Refusal;
 use snapshot::Route;
+
+// The bytes of a route behind its neighbour AS, in both kinds.
+const BEHIND_ASN: usize = 20;
 
 // What a list of checks finds: nothing, or the refusal of the first that fails.
 pub enum Finding {
@@ -100,7 +105,7 @@ pub enum EndStep {
     Refused(Refusal, usize),
 }
 
-// Kinds 0 and 7 to 255 are refused as KIND.
+// Kinds 0 and 8 to 255 are refused as KIND.
 fn body_length(kind: u8) -> Body
     ensures { λ r. ⌜ r ≡ bodyOf forms kind ⌝ }
 {
@@ -111,7 +116,8 @@ fn body_length(kind: u8) -> Body
         4 => Body::Bytes(5),
         5 => Body::Bytes(23),
         6 => Body::Bytes(4),
-        0 | 7..=255 => Body::Refused(Refusal::Kind),
+        7 => Body::Bytes(25),
+        0 | 8..=255 => Body::Refused(Refusal::Kind),
     }
 }
 
@@ -200,15 +206,21 @@ fn prefix_faults(k: Sofar, p: Network) -> Finding
     )
 }
 
-fn route_faults(k: Sofar, r: Route) -> Finding
-    ensures { λ f. ⌜ f ≡ finding (routeFaults k (routeIs r)) ⌝ }
+// Of a route in a record of a kind: the AS tells which kind it is to be.
+fn route_faults(k: Sofar, kind: u8, r: Route) -> Finding
+    ensures { λ f. ⌜ f ≡ finding (routeFaultsIn k kind (routeIs r)) ⌝ }
 {
+    let chosen = kind == snapshot::route_kind(snapshot::four_byte(r.asn));
     let field = !snapshot::route_bad(k.routers, r);
     let order = !((k.inside != 0) & snapshot::late(k.router, k.peer, r.router, r.peer));
     check(
-        field,
+        chosen,
         Refusal::Field,
-        check(order, Refusal::Order, Finding::Clear),
+        check(
+            field,
+            Refusal::Field,
+            check(order, Refusal::Order, Finding::Clear),
+        ),
     )
 }
 
@@ -237,22 +249,49 @@ pub fn network_at(input: &[u8], at: usize) -> Network
     }
 }
 
-// The route of the record at a place.
-pub fn route_at(input: &[u8], at: usize) -> Route
-    requires { ⌜ at + 24 ≤ length (now input) ⌝ }
-    ensures { λ r. ⌜ r ≡ routeAt (now (input .entry)) at ⌝ }
+// How many bits of the four bytes from a route's neighbour AS on stand behind it.
+fn bits_behind(four: bool) -> u32
+    ensures { λ n. ⌜ n ≡ bitsBehind four ⌝ }
+{
+    if four { 0 } else { 16 }
+}
+
+// The neighbour AS of the route record at a place, of kind 7 or of kind 5. Four bytes are read for both and shifted, which takes no branch.
+fn asn_at(input: &[u8], at: usize, four: bool) -> u32
+    requires { ⌜ at + size (routeFormBy four) ≤ length (now input) ⌝ }
+    ensures { λ r. ⌜ r ≡ getD (valuesAt (routeFormBy four) (now (input .entry)) at) 1 0 ⌝ }
+{
+    let bytes = wire::get32(input, at + 2);
+    bytes >> bits_behind(four)
+}
+
+// The route of a router and a neighbour AS whose other fields, the same in both kinds, stand from a place on.
+fn route_behind(input: &[u8], at: usize, router: u32, asn: u32) -> Route
+    requires { ⌜ at + 20 ≤ length (now input) ⌝ }
+    ensures { λ r. ⌜ r ≡ routeBehind (now (input .entry)) at router asn ⌝ }
 {
     Route {
-        router: wire::get8(input, at + 1),
-        asn: wire::get16(input, at + 2),
-        preference: wire::get32(input, at + 4),
-        path: wire::get16(input, at + 8),
-        origin: wire::get8(input, at + 10),
-        mark: wire::get8(input, at + 11),
-        med: wire::get32(input, at + 12),
-        nid: wire::get32(input, at + 16),
-        peer: wire::get32(input, at + 20),
+        router,
+        asn,
+        preference: wire::get32(input, at),
+        path: wire::get16(input, at + 4),
+        origin: wire::get8(input, at + 6),
+        mark: wire::get8(input, at + 7),
+        med: wire::get32(input, at + 8),
+        nid: wire::get32(input, at + 12),
+        peer: wire::get32(input, at + 16),
     }
+}
+
+// The route of the record at a place, of kind 7 or of kind 5.
+pub fn route_at(input: &[u8], at: usize, four: bool) -> Route
+    requires { ⌜ at + size (routeFormBy four) ≤ length (now input) ⌝ }
+    ensures { λ r. ⌜ r ≡ routeAt (now (input .entry)) at four ⌝ }
+{
+    let router = wire::get8(input, at + 1);
+    let asn = asn_at(input, at, four);
+    let fields = at + (snapshot::route_size(four) - BEHIND_ASN);
+    route_behind(input, fields, router, asn)
 }
 
 // The kind byte at a place; 0, which is no kind, where there is none.
@@ -392,21 +431,23 @@ impl Cursor {
         }
     }
 
-    // Kind 5: a route, behind what was read so far.
+    // Kinds 5 and 7: a route, behind what was read so far.
     pub fn route(self, input: &[u8], k: Sofar) -> RouteStep
         requires { ⌜ self .records ≤ self .at ⌝ }
         ensures { λ r. ⌜ routeSaid r ≡ judgedAt (self .at) (routeNext k (drop (self .at) (now (input .entry))))
-            (took (after self routeForm) (valuesAt routeForm (now (input .entry)) (self .at))) ⌝ }
+            (took (after self (formAt routeForms (now (input .entry)) (self .at))) (valuesAt (formAt routeForms (now (input .entry)) (self .at)) (now (input .entry)) (self .at))) ⌝ }
     {
         let at = self.at;
+        let four = kind_at(input, at) == 7;
+        let kind = snapshot::route_kind(four);
         let full = (snapshot::MOST_IN_PREFIX <= k.inside) | (snapshot::MOST_ROUTES <= k.routes);
-        match self.opening(input, 5, k.prefixes == 0, full) {
+        match self.opening(input, kind, k.prefixes == 0, full) {
             Finding::Fault(f) => RouteStep::Refused(f, at),
             Finding::Clear => {
-                let r = route_at(input, at);
-                match route_faults(k, r) {
+                let r = route_at(input, at, four);
+                match route_faults(k, kind, r) {
                     Finding::Fault(f) => RouteStep::Refused(f, at),
-                    Finding::Clear => RouteStep::Took(self.past(snapshot::ROUTE_SIZE), r),
+                    Finding::Clear => RouteStep::Took(self.past(snapshot::route_size(four)), r),
                 }
             }
         }

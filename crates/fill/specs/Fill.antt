@@ -9,7 +9,7 @@ use Rattle.wire.specs.Numbers.{numberAt}
 use Rattle.model.specs.Rows.{table}
 use Rattle.model.specs.Decision.{Route}
 use Rattle.snapshot.specs.Limits.{mostRouters, stride, mostRoutes}
-use Rattle.snapshot.specs.Records.{countForm, prefixForm, routeForm, size, valuesAt}
+use Rattle.snapshot.specs.Records.{countForm, prefixForm, routeForms, stands, size, formAt, valuesAt}
 use Rattle.snapshot.specs.Format.{Prefix, pairsBefore}
 use Rattle.snapshot.specs.Reading.{routeOf}
 use Rattle.snapshot.specs.Tables.{Columns, Tables, Wide, used, putRoutes, allRoutes}
@@ -39,12 +39,19 @@ pub record Spans (bs : List ℕ) (n : ℕ) : Type 0 where
 
 -- a whole route record stands at a place
 abbrev pub isRoute : List ℕ → ℕ → Bool
-isRoute bs at = eqb (getD bs at 0) (routeForm .kind) && leb (at + size routeForm) (length bs)
+isRoute bs at = stands routeForms (getD bs at 0) && leb (at + size (formAt routeForms bs at)) (length bs)
 
 -- the routes from a place on, at most so many
 unfoldable pub routesFrom : ℕ → List ℕ → ℕ → List Route
 routesFrom zero bs at = []
-routesFrom (suc room) bs at = cond (isRoute bs at) (routeOf (valuesAt routeForm bs at) ∷ routesFrom room bs (at + size routeForm)) []
+routesFrom (suc room) bs at =
+    let f = formAt routeForms bs at in
+    cond (isRoute bs at) (routeOf (valuesAt f bs at) ∷ routesFrom room bs (at + size f)) []
+
+-- the place behind them
+unfoldable pub behindRoutes : ℕ → List ℕ → ℕ → ℕ
+behindRoutes zero bs at = at
+behindRoutes (suc room) bs at = cond (isRoute bs at) (behindRoutes room bs (at + size (formAt routeForms bs at))) at
 
 -- the prefix at a place, with these routes
 abbrev pub prefixWith : List ℕ → ℕ → List Route → Prefix
@@ -54,8 +61,9 @@ prefixWith bs at rs = let v = valuesAt prefixForm bs at in record { address = ge
 unfoldable pub prefixesFrom : ℕ → List ℕ → ℕ → ℕ → List Prefix
 prefixesFrom zero bs at row = []
 prefixesFrom (suc left) bs at row =
-    let rs = routesFrom (mostRoutes - row) bs (at + size prefixForm) in
-    cond (leb (at + size prefixForm) (length bs)) (prefixWith bs at rs ∷ prefixesFrom left bs (at + size prefixForm + size routeForm * length rs) (row + length rs)) []
+    let first = at + size prefixForm in
+    let rs = routesFrom (mostRoutes - row) bs first in
+    cond (leb first (length bs)) (prefixWith bs at rs ∷ prefixesFrom left bs (behindRoutes (mostRoutes - row) bs first) (row + length rs)) []
 
 -- the columns of prefixes and routes
 pub record Lists : Type 0 where

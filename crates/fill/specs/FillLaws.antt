@@ -18,17 +18,18 @@ use Rattle.model.specs.Decision.{Route}
 use Rattle.snapshot.specs.Limits.{mostRouters, stride, mostRoutes, mostBits, farthest}
 use Rattle.snapshot.specs.Ranges.{distanceTests, prefixTests}
 use Rattle.snapshot.specs.RangesLaws.{none-at}
-use Rattle.snapshot.specs.Records.{countForm, routerForm, distanceForm, prefixForm, routeForm, endForm, written, size, Fits, kind, values, valuesAt}
-use Rattle.snapshot.specs.RecordsLaws.{values-at, values-written}
+use Rattle.snapshot.specs.Records.{Form, countForm, routerForm, distanceForm, prefixForm, routeForms, endForm, fourByte, formOf, stands, formAt, sum, written, writtenIn, size, Fits, kind, values, valuesAt}
+use Rattle.snapshot.specs.RecordsLaws.{values-at, values-written, length-spread, of-routes, routes-chosen}
 use Rattle.snapshot.specs.Format.{Prefix, Snapshot, Pair, pairs, pairsBefore, distance, Each, GoodId, GoodDistance, GoodRoute, GoodPrefix, Valid, records, routesIn, routesBytes, routersBytes, distancesBytes, prefixesBytes, routeFields, encode}
 use Rattle.snapshot.specs.Reading.{routeOf}
 use Rattle.snapshot.specs.ChecksLaws.{count-range, routers-few}
 use Rattle.snapshot.specs.PairsLaws.{pairs-length, pair-two, pair-of}
 use Rattle.snapshot.specs.PlaceLaws.{kind-at}
-use Rattle.snapshot.specs.WrittenLaws.{routers-size, distances-size, routes-size, encode-size}
+use Rattle.snapshot.specs.WrittenLaws.{routers-size, distances-size, encode-size}
 use Rattle.snapshot.specs.Tables.{Tables, filled, used, putDistances}
 use Rattle.cursor.specs.Steps.{idAt, routerPlace}
-use Rattle.fill.specs.Fill.{idsIn, distanceIn, entryIn, behindDistances, routesFrom, prefixWith, prefixesFrom, filledFrom, Spans}
+use Rattle.fill.specs.Fill.{idsIn, distanceIn, entryIn, behindDistances, isRoute, routesFrom, behindRoutes, prefixWith, prefixesFrom, filledFrom, Spans}
+use Rattle.fill.specs.StoresLaws.{routes-turn, behind-turn}
 
 -- each member of a list is good
 each-at : {A : Type 0} (good : List A → A → Type 0) (before xs : List A) (d : A) → Each good before xs → (i : ℕ) → i < length xs → (front : List A) × good front (getD xs i d)
@@ -172,26 +173,56 @@ reaches bs at xs rest k e l =
 drop-more : (bs : List ℕ) (at : ℕ) (xs rest : List ℕ) (k : ℕ) → drop at bs ≡ xs ++ rest → length xs ≡ k → drop (at + k) bs ≡ rest
 drop-more bs at xs rest k e l = sym (drop-drop k at bs) ∙ ap (drop k) e ∙ drop-at xs rest k l
 
-routes-from : (n : ℕ) (bs rest : List ℕ) → eqb (kind rest) 5 ≡ false → (before rs : List Route) (at room : ℕ) → drop at bs ≡ routesBytes rs ++ rest
-    → Each (GoodRoute n) before rs → length rs ≤ room → routesFrom room bs at ≡ rs
-unfolding routesFrom
-routes-from n bs rest other before [] at zero e good l = refl
+-- the record of a route that stands at a place
+module _ (bs : List ℕ) (at : ℕ) (r : Route) (more : List ℕ) (e : drop at bs ≡ writtenIn routeForms (routeFields r) ++ more)
+    (fit : Fits (routeForms .chosen (routeFields r) .widths) (routeFields r)) where
+  abbrev its : Form
+  its = routeForms .chosen (routeFields r)
+
+  its-kind : getD bs at 0 ≡ its .kind
+  its-kind = sym (kind-at bs at) ∙ ap kind e
+
+  its-form : formAt routeForms bs at ≡ its
+  its-form = ap (formOf routeForms) its-kind ∙ routes-chosen .found (routeFields r)
+
+  its-length : length (written its (routeFields r)) ≡ size its
+  its-length = ap suc (length-spread (its .widths) (routeFields r) fit)
+
+  route-here : isRoute bs at ≡ true
+  route-here =
+      ap₂ _&&_ (ap (stands routeForms) its-kind ∙ of-routes (λ f. stands routeForms (f .kind) ≡ true) refl refl (fourByte (r .asn)))
+      (ap (λ (f : Form). leb (at + size f) (length bs)) its-form
+      ∙ le-leb (at + size its) (length bs) (reaches bs at (written its (routeFields r)) more (sum (its .widths)) e its-length))
+
+  route-is : routeOf (valuesAt (formAt routeForms bs at) bs at) ≡ r
+  route-is =
+      ap (λ (f : Form). routeOf (valuesAt f bs at)) its-form
+      ∙ ap routeOf (sym (values-at its bs at) ∙ ap (values its) e ∙ values-written its (routeFields r) more fit)
+
+  behind-route : drop (at + size (formAt routeForms bs at)) bs ≡ more
+  behind-route = ap (λ (f : Form). drop (at + size f) bs) its-form ∙ drop-more bs at (written its (routeFields r)) more (size its) e its-length
+
+-- the routes that stand at a place are those that were written there, and behind them stands what was written next
+routes-from : (n : ℕ) (bs rest : List ℕ) → stands routeForms (kind rest) ≡ false → (before rs : List Route) (at room : ℕ) → drop at bs ≡ routesBytes rs ++ rest
+    → Each (GoodRoute n) before rs → length rs ≤ room → (routesFrom room bs at ≡ rs) × (drop (behindRoutes room bs at) bs ≡ rest)
+unfolding routesFrom behindRoutes
+routes-from n bs rest other before [] at zero e good l = (refl, e)
 routes-from n bs rest other before [] at (suc room) e good l =
-    ap (λ (b : Bool). cond (b && leb (at + 24) (length bs)) (routeOf (valuesAt routeForm bs at) ∷ routesFrom room bs (at + 24)) [])
-    (ap (λ (k : ℕ). eqb k 5) (sym (kind-at bs at)) ∙ ap (λ (l : List ℕ). eqb (kind l) 5) e ∙ other)
+    let no : isRoute bs at ≡ false = ap (λ (b : Bool). b && leb (at + size (formAt routeForms bs at)) (length bs)) (ap (stands routeForms) (sym (kind-at bs at) ∙ ap kind e) ∙ other) in
+    (routes-turn bs at no {left = room} refl, ap (λ (k : ℕ). drop k bs) (behind-turn bs at no {left = room} refl) ∙ e)
 routes-from n bs rest other before (r ∷ rs) at zero e good l = absurd (not-suc-le-zero l)
 routes-from n bs rest other before (r ∷ rs) at (suc room) e good l =
     let more : List ℕ = routesBytes rs ++ rest in
+    let e : drop at bs ≡ writtenIn routeForms (routeFields r) ++ more = e ∙ append-assoc (writtenIn routeForms (routeFields r)) (routesBytes rs) rest in
     let fit = good .0 .fits in
-    let whole : at + 24 ≤ length bs = reaches bs at (written routeForm (routeFields r)) more 23 e refl in
-    let five : eqb (getD bs at 0) 5 ≡ true = ap (λ (k : ℕ). eqb k 5) (sym (kind-at bs at)) ∙ ap (λ (l : List ℕ). eqb (kind l) 5) e in
-    let is : routeOf (valuesAt routeForm bs at) ≡ r = ap routeOf (sym (values-at routeForm bs at) ∙ ap (values routeForm) e ∙ values-written routeForm (routeFields r) more fit) in
-    ap₂ (λ (a b : Bool). cond (a && b) (routeOf (valuesAt routeForm bs at) ∷ routesFrom room bs (at + 24)) []) five (le-leb (at + 24) (length bs) whole)
-    ∙ ap₂ {C = List Route} _∷_ is
-    (routes-from n bs rest other (before ++ (r ∷ [])) rs (at + 24) room (drop-more bs at (written routeForm (routeFields r)) more 24 e refl) (good .1) (omega arith))
+    let here = route-here bs at r more e fit in
+    let (its, behind) = routes-from n bs rest other (before ++ (r ∷ [])) rs (at + size (formAt routeForms bs at)) room (behind-route bs at r more e fit) (good .1) (omega arith) in (
+      routes-turn bs at here {left = room} refl ∙ ap₂ {C = List Route} _∷_ (route-is bs at r more e fit) its,
+      ap (λ (k : ℕ). drop k bs) (behind-turn bs at here {left = room} refl) ∙ behind,
+    )
 
 -- what follows the routes of a prefix is no route
-no-route : (ps : List Prefix) (k : ℕ) → eqb (kind (prefixesBytes ps ++ written endForm (k ∷ []))) 5 ≡ false
+no-route : (ps : List Prefix) (k : ℕ) → stands routeForms (kind (prefixesBytes ps ++ written endForm (k ∷ []))) ≡ false
 no-route [] k = refl
 no-route (p ∷ ps) k = refl
 
@@ -199,8 +230,7 @@ no-route (p ∷ ps) k = refl
 pub record Stands (bs : List ℕ) (at : ℕ) (p : Prefix) (after : List ℕ) : Type 0 where
   pub whole : at + 6 ≤ length bs
   pub fields : valuesAt prefixForm bs at ≡ p .address ∷ p .bits ∷ []
-  pub routes : (room : ℕ) → length (p .routes) ≤ room → routesFrom room bs (at + 6) ≡ p .routes
-  pub behind : drop (at + 6 + 24 * length (p .routes)) bs ≡ after
+  pub routes : (room : ℕ) → length (p .routes) ≤ room → (routesFrom room bs (at + 6) ≡ p .routes) × (drop (behindRoutes room bs (at + 6)) bs ≡ after)
 
 pub prefix-stands : (n k : ℕ) (bs : List ℕ) (before : List Prefix) (p : Prefix) (ps : List Prefix) (at : ℕ)
     → drop at bs ≡ prefixesBytes (p ∷ ps) ++ written endForm (k ∷ []) → GoodPrefix n before p → Stands bs at p (prefixesBytes ps ++ written endForm (k ∷ []))
@@ -218,7 +248,6 @@ prefix-stands n k bs before p ps at e good =
       whole = reaches bs at (written prefixForm vs) rest 5 here refl;
       fields = sym (values-at prefixForm bs at) ∙ ap (values prefixForm) here ∙ values-written prefixForm vs rest fit;
       routes = λ room l. routes-from n bs after (no-route ps k) [] (p .routes) (at + 6) room next (good .routes) l;
-      behind = drop-more bs (at + 6) (routesBytes (p .routes)) after (24 * length (p .routes)) next (routes-size (p .routes));
     }
 
 prefixes-from : (n k : ℕ) (bs : List ℕ) (before ps : List Prefix) (at row : ℕ) → drop at bs ≡ prefixesBytes ps ++ written endForm (k ∷ [])
@@ -227,11 +256,13 @@ unfolding prefixesFrom
 prefixes-from n k bs before [] at row e good l = refl
 prefixes-from n k bs before (p ∷ ps) at row e good l =
     let here = prefix-stands n k bs before p ps at e (good .0) in
-    ap (λ (b : Bool). cond b (prefixWith bs at (routesFrom (mostRoutes - row) bs (at + 6)) ∷ prefixesFrom (length ps) bs (at + 6 + 24 * length (routesFrom (mostRoutes - row) bs (at + 6))) (row + length (routesFrom (mostRoutes - row) bs (at + 6)))) [])
-    (le-leb (at + 6) (length bs) (here .whole))
-    ∙ ap (λ (rs : List Route). prefixWith bs at rs ∷ prefixesFrom (length ps) bs (at + 6 + 24 * length rs) (row + length rs)) (here .routes (mostRoutes - row) (omega arith))
+    let (its, next) = here .routes (mostRoutes - row) (omega arith) in
+    let behind : ℕ = behindRoutes (mostRoutes - row) bs (at + 6) in
+    let found : List Route → List Prefix = λ rs. prefixWith bs at rs ∷ prefixesFrom (length ps) bs behind (row + length rs) in
+    ap (λ (b : Bool). cond b (found (routesFrom (mostRoutes - row) bs (at + 6))) []) (le-leb (at + 6) (length bs) (here .whole))
+    ∙ ap found its
     ∙ ap₂ {C = List Prefix} _∷_ (ap (λ (v : List ℕ). record { address = getD v 0 0; bits = getD v 1 0; routes = p .routes }) (here .fields))
-    (prefixes-from n k bs (before ++ (p ∷ [])) ps (at + 6 + 24 * length (p .routes)) (row + length (p .routes)) (here .behind) (good .1) (omega arith))
+    (prefixes-from n k bs (before ++ (p ∷ [])) ps behind (row + length (p .routes)) next (good .1) (omega arith))
 
 -- ---- the whole
 

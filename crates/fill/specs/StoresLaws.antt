@@ -9,20 +9,21 @@ use mathlib.Core.Bool.{Bool, true, false, cond, _&&_, and-false}
 use mathlib.Core.List.{List, [], _∷_, _++_, map, append-assoc, append-nil}
 use lib.ListN.{length, getD, set, length-map, length-append}
 use lib.Seq.{sets, length-sets, ext-getD}
-use lib.Dec.{leb, ltb, eqb}
+use lib.Dec.{leb, ltb, lit≤}
 use borrow.Author.Tests.{lt-ltb, le-ltb, lt-leb, le-leb, leb-true}
 use Rattle.model.specs.Rows.{table}
 use Rattle.model.specs.RowLaws.{both, table-length, table-at, table-snoc}
 use Rattle.model.specs.LoopLaws.{Stored, stored, stored-next, stored-skip}
 use Rattle.model.specs.Decision.{Route}
 use Rattle.snapshot.specs.Limits.{stride, mostRoutes}
-use Rattle.snapshot.specs.Records.{countForm, prefixForm, routeForm, size, valuesAt}
+use Rattle.snapshot.specs.Records.{Form, countForm, prefixForm, fourByteRouteForm, routeFormBy, routeForms, stands, size, formAt, valuesAt}
+use Rattle.snapshot.specs.RecordsLaws.{of-routes}
 use Rattle.snapshot.specs.Format.{Prefix, routesIn}
 use Rattle.snapshot.specs.ChecksLaws.{length-snoc, routesIn-append}
 use Rattle.snapshot.specs.Reading.{routeOf}
 use Rattle.snapshot.specs.Tables.{Columns, Tables, tables, used, putRoutes, allRoutes, Wide}
 use Rattle.cursor.specs.Steps.{idAt, routerPlace}
-use Rattle.fill.specs.Fill.{idsIn, distanceIn, entryIn, behindDistances, filledFrom, isRoute, routesFrom, prefixWith, prefixesFrom, Lists, lists, putPrefixes, WideLists}
+use Rattle.fill.specs.Fill.{idsIn, distanceIn, entryIn, behindDistances, filledFrom, isRoute, routesFrom, behindRoutes, prefixWith, prefixesFrom, Lists, lists, putPrefixes, WideLists}
 use Rattle.model.specs.ColumnLaws.{sets-append}
 use Rattle.snapshot.specs.TablesLaws.{length-all, all-append}
 
@@ -152,8 +153,36 @@ alike-put c i rs = record {
 pub wide-alike : {n : ℕ} {c d : Columns} → Wide n c → Alike d c → Wide n d
 wide-alike w a = omega arith
 
-pub route-whole : (bs : List ℕ) (at : ℕ) → isRoute bs at ≡ true → at + 24 ≤ length bs
-route-whole bs at e = leb-true _ _ (both (eqb (getD bs at 0) 5) (leb (at + 24) (length bs)) e .1)
+-- a route record has at most so many bytes
+pub route-most : (four : Bool) → size (routeFormBy four) ≤ size fourByteRouteForm
+route-most = of-routes (λ f. size f ≤ size fourByteRouteForm) (lit≤ tt) (lit≤ tt)
+
+pub route-whole : (bs : List ℕ) (at : ℕ) → isRoute bs at ≡ true → at + size (formAt routeForms bs at) ≤ length bs
+route-whole bs at e = leb-true _ _ (both (stands routeForms (getD bs at 0)) (leb (at + size (formAt routeForms bs at)) (length bs)) e .1)
+
+-- one more of the routes from a place on
+module _ (bs : List ℕ) (at : ℕ) {b : Bool} (e : isRoute bs at ≡ b) {room left : ℕ} (more : room ≡ suc left) where
+  abbrev f : Form
+  f = formAt routeForms bs at
+
+  pub routes-turn : routesFrom room bs at ≡ cond b (routeOf (valuesAt f bs at) ∷ routesFrom left bs (at + size f)) []
+  unfolding routesFrom
+  routes-turn =
+      ap (λ (k : ℕ). routesFrom k bs at) more ∙ ap (λ (b : Bool). cond b (routeOf (valuesAt f bs at) ∷ routesFrom left bs (at + size f)) []) e
+
+  pub behind-turn : behindRoutes room bs at ≡ cond b (behindRoutes left bs (at + size f)) at
+  unfolding behindRoutes
+  behind-turn = ap (λ (k : ℕ). behindRoutes k bs at) more ∙ ap (λ (b : Bool). cond b (behindRoutes left bs (at + size f)) at) e
+
+-- and none where there is no room
+module _ (bs : List ℕ) (at : ℕ) {room : ℕ} (none : room ≡ 0) where
+  routes-none : routesFrom room bs at ≡ []
+  unfolding routesFrom
+  routes-none = ap (λ (k : ℕ). routesFrom k bs at) none
+
+  pub behind-none : behindRoutes room bs at ≡ at
+  unfolding behindRoutes
+  behind-none = ap (λ (k : ℕ). behindRoutes k bs at) none
 
 -- the routes before `at` stand in the rows before `row`, and so many more are to come
 pub record Taken (bs : List ℕ) (room at₀ row₀ : ℕ) (c₀ : Columns) (at row : ℕ) (c : Columns) : Type 0 where
@@ -161,63 +190,69 @@ pub record Taken (bs : List ℕ) (room at₀ row₀ : ℕ) (c₀ : Columns) (at 
   pub put : c ≡ putRoutes c₀ row₀ so
   pub rows : row ≡ row₀ + length so
   pub left : routesFrom (room - row₀) bs at₀ ≡ so ++ routesFrom (room - row) bs at
+  pub same : behindRoutes (room - row₀) bs at₀ ≡ behindRoutes (room - row) bs at
   pub within : row ≤ room
   pub inside : at ≤ length bs
 
 module _ {bs : List ℕ} {room at₀ row₀ : ℕ} {c₀ : Columns} where
   pub taken-start : at₀ ≤ length bs → row₀ ≤ room → Taken bs room at₀ row₀ c₀ at₀ row₀ c₀
-  taken-start h l = record { so = []; put = refl; rows = (let z : row₀ ≡ row₀ + 0 = omega arith in z); left = refl; within = l; inside = h }
+  taken-start h l = record { so = []; put = refl; rows = (let z : row₀ ≡ row₀ + 0 = omega arith in z); left = refl; same = refl; within = l; inside = h }
 
   module _ {at row : ℕ} {c : Columns} (s : Taken bs room at₀ row₀ c₀ at row c) where
     pub taken-alike : Alike c c₀
     taken-alike = subst (λ (d : Columns). Alike d c₀) (sym (s .put)) (alike-put c₀ row₀ (s .so))
 
-    none-left : routesFrom (room - row) bs at ≡ [] → (row ≡ row₀ + length (routesFrom (room - row₀) bs at₀)) × (c ≡ putRoutes c₀ row₀ (routesFrom (room - row₀) bs at₀))
-    none-left e =
+    -- all is taken: the row and the place behind the routes, and their columns
+    abbrev All : Type 0
+    All =
+        (row ≡ row₀ + length (routesFrom (room - row₀) bs at₀)) × (at ≡ behindRoutes (room - row₀) bs at₀)
+        × (c ≡ putRoutes c₀ row₀ (routesFrom (room - row₀) bs at₀))
+
+    none-left : routesFrom (room - row) bs at ≡ [] → behindRoutes (room - row) bs at ≡ at → All
+    none-left e place =
         let is : routesFrom (room - row₀) bs at₀ ≡ s .so = s .left ∙ ap (λ (l : List Route). s .so ++ l) e ∙ append-nil (s .so) in
-        (s .rows ∙ ap (λ (l : List Route). row₀ + length l) (sym is), s .put ∙ ap (putRoutes c₀ row₀) (sym is))
+        (s .rows ∙ ap (λ (l : List Route). row₀ + length l) (sym is), sym (s .same ∙ place), s .put ∙ ap (putRoutes c₀ row₀) (sym is))
 
-    pub taken-stop : row < room → isRoute bs at ≡ false → (row ≡ row₀ + length (routesFrom (room - row₀) bs at₀)) × (c ≡ putRoutes c₀ row₀ (routesFrom (room - row₀) bs at₀))
-    unfolding routesFrom
+    pub taken-stop : row < room → isRoute bs at ≡ false → All
     taken-stop l e =
-        none-left (ap (λ (k : ℕ). routesFrom k bs at) (let z : room - row ≡ suc (room - suc row) = omega arith in z)
-        ∙ ap (λ (b : Bool). cond b (routeOf (valuesAt routeForm bs at) ∷ routesFrom (room - suc row) bs (at + 24)) []) e)
+        let more : room - row ≡ suc (room - suc row) = omega arith in
+        none-left (routes-turn bs at e more) (behind-turn bs at e more)
 
-    pub taken-end : room ≤ row → (row ≡ row₀ + length (routesFrom (room - row₀) bs at₀)) × (c ≡ putRoutes c₀ row₀ (routesFrom (room - row₀) bs at₀))
-    unfolding routesFrom
-    taken-end l = none-left (ap (λ (k : ℕ). routesFrom k bs at) (let z : room - row ≡ 0 = omega arith in z))
+    pub taken-end : room ≤ row → All
+    taken-end l = let none : room - row ≡ 0 = omega arith in none-left (routes-none bs at none) (behind-none bs at none)
 
-    pub taken-next : {d : Columns} {r : Route} → row < room → isRoute bs at ≡ true → r ≡ routeOf (valuesAt routeForm bs at) → d ≡ putRoutes c row (r ∷ [])
-        → Taken bs room at₀ row₀ c₀ (at + 24) (row + 1) d
-    unfolding routesFrom
-    taken-next {d} {r} l e is p =
-        let more : routesFrom (room - row) bs at ≡ r ∷ routesFrom (room - (row + 1)) bs (at + 24) =
-        ap (λ (k : ℕ). routesFrom k bs at) (let z : room - row ≡ suc (room - (row + 1)) = omega arith in z)
-        ∙ ap (λ (b : Bool). cond b (routeOf (valuesAt routeForm bs at) ∷ routesFrom (room - (row + 1)) bs (at + 24)) []) e
-        ∙ ap (λ (x : Route). x ∷ routesFrom (room - (row + 1)) bs (at + 24)) (sym is) in
+    pub taken-next : {d : Columns} {r : Route} {next : ℕ} → row < room → isRoute bs at ≡ true → r ≡ routeOf (valuesAt (formAt routeForms bs at) bs at)
+        → next ≡ at + size (formAt routeForms bs at) → d ≡ putRoutes c row (r ∷ []) → Taken bs room at₀ row₀ c₀ next (row + 1) d
+    taken-next {d} {r} {next} l e is place p =
+        let more : room - row ≡ suc (room - (row + 1)) = omega arith in
+        let left : routesFrom (room - row) bs at ≡ r ∷ routesFrom (room - (row + 1)) bs next =
+        routes-turn bs at e more ∙ ap₂ (λ (x : Route) (k : ℕ). x ∷ routesFrom (room - (row + 1)) bs k) (sym is) (sym place) in
         let rows : row ≡ row₀ + length (s .so) = s .rows in
         let long : length (s .so ++ (r ∷ [])) ≡ length (s .so) + 1 = length-append (s .so) (r ∷ []) in
         record {
           so = s .so ++ (r ∷ []);
           put = p ∙ ap₂ (λ (x : Columns) (k : ℕ). putRoutes x k (r ∷ [])) (s .put) rows ∙ put-append c₀ row₀ (s .so) (r ∷ []);
           rows = omega arith;
-          left = s .left ∙ ap (λ (l : List Route). s .so ++ l) more ∙ sym (append-assoc (s .so) (r ∷ []) (routesFrom (room - (row + 1)) bs (at + 24)));
+          left = s .left ∙ ap (λ (l : List Route). s .so ++ l) left ∙ sym (append-assoc (s .so) (r ∷ []) (routesFrom (room - (row + 1)) bs next));
+          same = s .same ∙ behind-turn bs at e more ∙ ap (behindRoutes (room - (row + 1)) bs) (sym place);
           within = omega arith;
-          inside = route-whole bs at e;
+          inside = subst (λ (k : ℕ). k ≤ length bs) (sym place) (route-whole bs at e);
         }
 
 -- the routes that stand from a place on end within the input
-pub routes-inside : (room : ℕ) (bs : List ℕ) (at : ℕ) → at ≤ length bs → (at + 24 * length (routesFrom room bs at) ≤ length bs) × (length (routesFrom room bs at) ≤ room)
-unfolding routesFrom
-routes-inside zero bs at h = (omega arith, omega arith)
-routes-inside (suc room) bs at h = go (eqb (getD bs at 0) 5) (leb (at + 24) (length bs)) refl (routes-inside room bs (at + 24))
+pub routes-inside : (room : ℕ) (bs : List ℕ) (at : ℕ) → at ≤ length bs → (behindRoutes room bs at ≤ length bs) × (length (routesFrom room bs at) ≤ room)
+unfolding routesFrom behindRoutes
+routes-inside zero bs at h = (h, omega arith)
+routes-inside (suc room) bs at h = go (isRoute bs at) refl (routes-inside room bs (at + size f))
   where
-    go : (a b : Bool) → leb (at + 24) (length bs) ≡ b
-        → (at + 24 ≤ length bs → (at + 24 + 24 * length (routesFrom room bs (at + 24)) ≤ length bs) × (length (routesFrom room bs (at + 24)) ≤ room))
-        → let rs = cond (a && b) (routeOf (valuesAt routeForm bs at) ∷ routesFrom room bs (at + 24)) [] in (at + 24 * length rs ≤ length bs) × (length rs ≤ suc room)
-    go true true e ih = let (i, j) = ih (leb-true _ _ e) in (omega arith, omega arith)
-    go true false e ih = (omega arith, omega arith)
-    go false b e ih = (omega arith, omega arith)
+    f : Form
+    f = formAt routeForms bs at
+
+    go : (b : Bool) → isRoute bs at ≡ b
+        → (at + size f ≤ length bs → (behindRoutes room bs (at + size f) ≤ length bs) × (length (routesFrom room bs (at + size f)) ≤ room))
+        → (cond b (behindRoutes room bs (at + size f)) at ≤ length bs) × (length (cond b (routeOf (valuesAt f bs at) ∷ routesFrom room bs (at + size f)) []) ≤ suc room)
+    go true e ih = let (i, j) = ih (route-whole bs at e) in (i, omega arith)
+    go false e ih = (h, omega arith)
 
 -- ---- prefixes
 
@@ -297,7 +332,7 @@ module _ {bs : List ℕ} {m at₀ : ℕ} {t₀ : Lists} where
     unfolding prefixesFrom
     listed-stop l h =
         no-more (ap (λ (k : ℕ). prefixesFrom k bs at row) (let z : m - p ≡ suc (m - suc p) = omega arith in z)
-        ∙ ap (λ (b : Bool). cond b (prefixWith bs at (taken) ∷ prefixesFrom (m - suc p) bs (at + 6 + 24 * length taken) (row + length taken)) []) (lt-leb (at + 6) (length bs) h))
+        ∙ ap (λ (b : Bool). cond b (prefixWith bs at taken ∷ prefixesFrom (m - suc p) bs (behindRoutes (mostRoutes - row) bs (at + 6)) (row + length taken)) []) (lt-leb (at + 6) (length bs) h))
       where
         taken : List Route
         taken = routesFrom (mostRoutes - row) bs (at + 6)
@@ -307,22 +342,24 @@ module _ {bs : List ℕ} {m at₀ : ℕ} {t₀ : Lists} where
     listed-end l = no-more (ap (λ (k : ℕ). prefixesFrom k bs at row) (let z : m - p ≡ 0 = omega arith in z))
 
     -- the routes of the prefix at the place end within the input and the columns
-    pub listed-room : at + 6 ≤ length bs → let k = length (routesFrom (mostRoutes - row) bs (at + 6)) in (at + 6 + 24 * k ≤ length bs) × (row + k ≤ mostRoutes)
+    pub listed-room : at + 6 ≤ length bs → (behindRoutes (mostRoutes - row) bs (at + 6) ≤ length bs) × (row + length (routesFrom (mostRoutes - row) bs (at + 6)) ≤ mostRoutes)
     listed-room h =
         let r = routes-inside (mostRoutes - row) bs (at + 6) h in
         let f : row ≤ mostRoutes = s .few in
         (r .0, omega (arith, r .1))
 
-    pub listed-next : {a b c : List ℕ} {rows : Columns} {end : ℕ} → p < m → at + 6 ≤ length bs
+    pub listed-next : {a b c : List ℕ} {rows : Columns} {next end : ℕ} → p < m → at + 6 ≤ length bs
         → end ≡ row + length (routesFrom (mostRoutes - row) bs (at + 6))
+        → next ≡ behindRoutes (mostRoutes - row) bs (at + 6)
         → a ≡ set (t .address) p (getD (valuesAt prefixForm bs at) 0 0)
         → b ≡ set (t .bits) p (getD (valuesAt prefixForm bs at) 1 0)
         → c ≡ set (t .routes) p (end - row)
         → rows ≡ putRoutes (t .rows) row (routesFrom (mostRoutes - row) bs (at + 6))
-        → Listed bs m at₀ t₀ (p + 1) (at + (6 + 24 * (end - row))) end (lists a b c rows)
+        → Listed bs m at₀ t₀ (p + 1) next end (lists a b c rows)
     unfolding prefixesFrom
-    listed-next {a} {b} {c} {rows} {end} l h e ea eb ec er =
+    listed-next {a} {b} {c} {rows} {next} {end} l h e place ea eb ec er =
         let taken : List Route = routesFrom (mostRoutes - row) bs (at + 6) in
+        let behind : ℕ = behindRoutes (mostRoutes - row) bs (at + 6) in
         let q : Prefix = prefixWith bs at taken in
         let inside : end - row ≡ length taken = omega arith in
         let count : p ≡ length (s .so) = s .count in
@@ -330,19 +367,18 @@ module _ {bs : List ℕ} {m at₀ : ℕ} {t₀ : Lists} where
         let room = listed-room h in
         let one = length-snoc (s .so) q in
         let sum = routesIn-append (s .so) (q ∷ []) in
-        let to : at + (6 + 24 * (end - row)) ≡ at + 6 + 24 * length taken = omega arith in
-        let step : prefixesFrom (m - p) bs at row ≡ q ∷ prefixesFrom (m - (p + 1)) bs (at + 6 + 24 * length taken) (row + length taken) =
+        let step : prefixesFrom (m - p) bs at row ≡ q ∷ prefixesFrom (m - (p + 1)) bs behind (row + length taken) =
         ap (λ (k : ℕ). prefixesFrom k bs at row) (let z : m - p ≡ suc (m - (p + 1)) = omega arith in z)
-        ∙ ap (λ (b : Bool). cond b (q ∷ prefixesFrom (m - (p + 1)) bs (at + 6 + 24 * length taken) (row + length taken)) []) (le-leb (at + 6) (length bs) h) in
+        ∙ ap (λ (b : Bool). cond b (q ∷ prefixesFrom (m - (p + 1)) bs behind (row + length taken)) []) (le-leb (at + 6) (length bs) h) in
         record {
           so = s .so ++ (q ∷ []);
           put = rw (ea, eb, ec, er) (put-next t₀ (s .so) q (s .put) count routes inside);
           count = omega arith;
           rows = omega arith;
-          left = s .left ∙ ap (λ (l : List Prefix). s .so ++ l) (step ∙ ap₂ (λ (x y : ℕ). q ∷ prefixesFrom (m - (p + 1)) bs x y) (sym to) (sym e))
-              ∙ sym (append-assoc (s .so) (q ∷ []) (prefixesFrom (m - (p + 1)) bs (at + (6 + 24 * (end - row))) end));
+          left = s .left ∙ ap (λ (l : List Prefix). s .so ++ l) (step ∙ ap₂ (λ (x y : ℕ). q ∷ prefixesFrom (m - (p + 1)) bs x y) (sym place) (sym e))
+              ∙ sym (append-assoc (s .so) (q ∷ []) (prefixesFrom (m - (p + 1)) bs next end));
           within = omega arith;
-          inside = omega (arith, room .0);
+          inside = subst (λ (k : ℕ). k ≤ length bs) (sym place) (room .0);
           few = omega (arith, room .1);
         }
 

@@ -4,7 +4,7 @@ ghost use mathlib.Core.Bool.{cond};
 ghost use mathlib.Core.List.{_∷_, []};
 ghost use Prim.Native.Nat.{_+_, _-_, _*_, _≤_, _<_};
 ghost use lib.Dec.{leb};
-ghost use lib.ListN.{length, set};
+ghost use lib.ListN.{length, getD, set};
 ghost use lib.Seq.{sets};
 ghost use Rattle.model.specs.Rows.{table};
 ghost use Rattle.model.specs.Lent.{was, is};
@@ -114,13 +114,13 @@ pub fn put_route(
     peer[row] = r.peer;
 }
 
-// Whether a whole route record stands at a place.
-pub fn is_route(input: &[u8], at: usize) -> bool
-    requires { ⌜ at ≤ length (now input) ⌝ }
+// Whether a whole route record stands at a place, given the kind byte there.
+pub fn is_route(input: &[u8], at: usize, kind: u8) -> bool
+    requires { ⌜ (at ≤ length (now input)) × (kind ≡ getD (now input) at 0) ⌝ }
     ensures { λ r. ⌜ r ≡ isRoute (was input) at ⌝ }
 {
-    let kind = cursor::kind_at(input, at);
-    (kind == 5) & (at + snapshot::ROUTE_SIZE <= input.len())
+    let size = snapshot::route_size(kind == 7);
+    snapshot::route_stands(kind) & (at + size <= input.len())
 }
 
 // Puts a prefix and its number of routes into a row of the columns.

@@ -1,8 +1,8 @@
 -- What is loaded for a prefix is what reading would leave in tables for it, so its forecast is the snapshot's.
-use Prim.Native.Nat.{ℕ, zero, suc, _+_, _*_, _≤_, _<_}
+use Prim.Native.Nat.{ℕ, zero, suc, _+_, _≤_, _<_}
 use native.Mathlib.Nat.{not-suc-le-zero}
 use native.Mathlib.Omega.{arith}
-use mathlib.Core.Path.{_≡_, sym, ap, ap₂, _∙_, subst, subst₂}
+use mathlib.Core.Path.{_≡_, refl, sym, ap, ap₂, _∙_, subst, subst₂}
 use mathlib.Core.Bool.{Bool, cond}
 use mathlib.Core.List.{List, [], _∷_, _++_, map}
 use lib.ListN.{length, getD, take, drop, replicate, length-map, length-replicate}
@@ -18,9 +18,9 @@ use Rattle.snapshot.specs.Limits.{mostInPrefix, mostRoutes}
 use Rattle.snapshot.specs.Records.{endForm, written}
 use Rattle.snapshot.specs.Format.{Prefix, Snapshot, Each, GoodPrefix, Valid, records, prefixesBytes, encode}
 use Rattle.snapshot.specs.Tables.{Columns, Tables, columns, tables, filled, putRoutes, routesOf, countsOf, Held, mesh, Room, Wide}
-use Rattle.fill.specs.Fill.{idsIn, entryIn, behindDistances, routesFrom, Spans}
+use Rattle.fill.specs.Fill.{idsIn, entryIn, behindDistances, routesFrom, behindRoutes, Spans}
 use Rattle.fill.specs.FillLaws.{Stands, prefix-stands, behind-distances, spans, fills}
-use Rattle.fill.specs.StoresLaws.{Alike, alike-put, wide-alike}
+use Rattle.fill.specs.StoresLaws.{Alike, alike-put}
 use Rattle.tables.specs.ListsLaws.{map-at}
 use Rattle.tables.specs.HeldLaws.{no-prefix}
 use Rattle.tables.specs.FilledLaws.{filled-held, filled-room}
@@ -28,7 +28,7 @@ use Rattle.tables.specs.Theorems.{routes-few}
 use Rattle.decide.specs.declared.Differing.{Differing}
 use Rattle.decide.specs.Decide.{differingOf, Decided}
 use Rattle.outlook.specs.OutlookLaws.{columnsOf, lent, lent-between, lent-placed}
-use Rattle.load.specs.Load.{behindRoutes, placeFrom, routesPlace, askedRoutes, Asked, Lends, Loaded, front, Forecast}
+use Rattle.load.specs.Load.{placeFrom, routesPlace, askedRoutes, WideRows, Asked, Lends, Loaded, front, Forecast}
 
 -- ---- the place of a prefix
 
@@ -40,10 +40,9 @@ stands-at n k bs before [] at p e good l = absurd (not-suc-le-zero l)
 stands-at n k bs before (q ∷ qs) at zero e good l = (prefixesBytes qs ++ written endForm (k ∷ []), prefix-stands n k bs before q qs at e (good .0))
 stands-at n k bs before (q ∷ qs) at (suc p) e good l =
     let here = prefix-stands n k bs before q qs at e (good .0) in
-    let next : placeFrom (suc p) bs at ≡ placeFrom p bs (at + 6 + 24 * length (q .routes)) =
-    ap (λ (b : Bool). cond b (placeFrom p bs (behindRoutes bs (at + 6))) at) (le-leb (at + 6) (length bs) (here .whole))
-    ∙ ap (λ (rs : List Route). placeFrom p bs (at + 6 + 24 * length rs)) (here .routes mostInPrefix (good .0 .most)) in
-    let (after, there) = stands-at n k bs (before ++ (q ∷ [])) qs (at + 6 + 24 * length (q .routes)) p (here .behind) (good .1) (omega arith) in
+    let behind : ℕ = behindRoutes mostInPrefix bs (at + 6) in
+    let next : placeFrom (suc p) bs at ≡ placeFrom p bs behind = ap (λ (b : Bool). cond b (placeFrom p bs behind) at) (le-leb (at + 6) (length bs) (here .whole)) in
+    let (after, there) = stands-at n k bs (before ++ (q ∷ [])) qs behind p (here .routes mostInPrefix (good .0 .most) .1) (good .1) (omega arith) in
     (after, subst (λ (m : ℕ). Stands bs m (getD qs p no-prefix) after) (sym next) there)
 
 -- ---- columns
@@ -54,7 +53,7 @@ front-field f rs xs h =
     ap (take (length rs)) (sets-front xs (map f rs) (omega arith)) ∙ take-at (map f rs) (drop (length (map f rs)) xs) (length rs) long
 
 -- routes that are put at the front stand there
-front-put : (c : Columns) (rs : List Route) → Wide (length rs) c → front (length rs) (putRoutes c 0 rs) ≡ columnsOf rs
+front-put : (c : Columns) (rs : List Route) → WideRows (length rs) c → front (length rs) (putRoutes c 0 rs) ≡ columnsOf rs
 front-put c rs w =
     rw (
       front-field (λ r. r .router) rs (c .router) (w .router),
@@ -67,8 +66,28 @@ front-put c rs w =
       front-field (λ r. r .peer) rs (c .peer) (w .peer),
     )
 
-wide-less : {m n : ℕ} {c : Columns} → m ≤ n → Wide n c → Wide m c
-wide-less h w = omega arith
+alike : (c : Columns) → Alike c c
+alike c = alike-put c 0 []
+
+rows-less : {m n : ℕ} {c d : Columns} → m ≤ n → WideRows n c → Alike d c → WideRows m d
+rows-less h w a = omega arith
+
+-- ---- columns without marks
+
+sets-none : (i : ℕ) (xs : List ℕ) → sets [] i xs ≡ []
+sets-none i [] = refl
+sets-none i (x ∷ xs) = sets-none (suc i) xs
+
+-- routes that are put into columns are put into those without marks
+abbrev dropMarks : Columns → Columns
+dropMarks c = columns (c .router) (c .asn) (c .preference) (c .path) (c .origin) [] (c .med) (c .nid) (c .peer)
+
+put-unmarked : (c : Columns) (i : ℕ) (rs : List Route) → dropMarks (putRoutes c i rs) ≡ putRoutes (dropMarks c) i rs
+put-unmarked c i rs = rw (sets-none i (map (λ r. r .mark) rs))
+
+-- and these have room where those have
+pub wide-marked : {n : ℕ} (c : Columns) → WideRows n (dropMarks c) → n ≤ length (c .mark) → Wide n c
+wide-marked c w m = omega arith
 
 -- ---- the routes of a prefix
 
@@ -88,7 +107,7 @@ module _ {s : Snapshot} (valid : Valid s) {p : ℕ} (below : p < length (s .pref
   routes-are : askedRoutes bs n p ≡ routesOf s p
   routes-are =
       let its : routesOf s p ≡ getD (s .prefixes) p no-prefix .routes = map-at (λ (q : Prefix). q .routes) (s .prefixes) no-prefix [] p below in
-      stands .1 .routes mostInPrefix (subst (λ (rs : List Route). length rs ≤ mostInPrefix) its (routes-few valid p below)) ∙ sym its
+      stands .1 .routes mostInPrefix (subst (λ (rs : List Route). length rs ≤ mostInPrefix) its (routes-few valid p below)) .0 ∙ sym its
 
   -- ---- what is decided on it
 
@@ -143,7 +162,7 @@ module _ {s : Snapshot} (valid : Valid s) {p : ℕ} (below : p < length (s .pref
     front-is =
         let most = few in
         let count = loaded .count in
-        ap₂ front count (loaded .columns-are) ∙ front-put c₀ (askedRoutes bs n p) (wide-less (omega arith) (room .rows)) ∙ ap columnsOf routes-are
+        ap₂ front count (loaded .columns-are) ∙ front-put c₀ (askedRoutes bs n p) (rows-less (omega arith) (room .rows) (alike c₀)) ∙ ap columnsOf routes-are
 
     -- so what is said of the one is said of the other
     module _ (of : ℕ → List ℕ → List ℕ → decided.Columns → Type 0) where
@@ -171,18 +190,18 @@ module _ {s : Snapshot} (valid : Valid s) {p : ℕ} (below : p < length (s .pref
 -- ---- for the code
 
 -- the parts are loaded one after the other
-pub loaded : (bs : List ℕ) (n p : ℕ) {first at rows : ℕ} {ids₀ distances₀ ids distances : List ℕ} {c₀ c : Columns} → first ≡ behindDistances n → at ≡ placeFrom p bs first
+pub loaded : (bs : List ℕ) (n p : ℕ) {first at rows : ℕ} {ids₀ distances₀ ids distances : List ℕ} (c₀ c : Columns) → first ≡ behindDistances n → at ≡ placeFrom p bs first
     → ids ≡ sets ids₀ 0 (idsIn bs n) → distances ≡ table (length distances₀) (entryIn bs n distances₀)
     → rows ≡ 0 + length (routesFrom mostInPrefix bs (at + 6)) → c ≡ putRoutes c₀ 0 (routesFrom mostInPrefix bs (at + 6))
-    → Loaded bs n p ids₀ distances₀ c₀ rows ids distances c
-loaded bs n p {first} {at} {rows} {c₀ = c₀} e f i d r k =
+    → Loaded bs n p ids₀ distances₀ (dropMarks c₀) rows ids distances (dropMarks c)
+loaded bs n p {first} {at} {rows} c₀ c e f i d r k =
     let place : at ≡ placeFrom p bs (behindDistances n) = f ∙ ap (placeFrom p bs) e in
     let routes : routesFrom mostInPrefix bs (at + 6) ≡ askedRoutes bs n p = ap (λ (a : ℕ). routesFrom mostInPrefix bs (a + 6)) place in
     record {
       count = (let z : rows ≡ length (routesFrom mostInPrefix bs (at + 6)) = omega arith in z) ∙ ap length routes;
       ids-are = i;
       distances-are = d;
-      columns-are = k ∙ ap (putRoutes c₀ 0) routes;
+      columns-are = ap dropMarks k ∙ put-unmarked c₀ 0 (routesFrom mostInPrefix bs (at + 6)) ∙ ap (putRoutes (dropMarks c₀) 0) routes;
     }
 
 pub asked-again : {bs : List ℕ} {n m p : ℕ} → n ≡ m → Asked bs n p → Asked bs m p
@@ -203,10 +222,10 @@ module _ {bs : List ℕ} {n p : ℕ} (asked : Asked bs n p) where
     there = subst₂ (λ (l : List ℕ) (m : ℕ). Loaded l m p ids₀ distances₀ c₀ rows ids distances c) (asked .written) (asked .routers) loaded
 
     -- so many rows as are loaded fit
-    pub loaded-long : Wide rows c
+    pub loaded-long : WideRows rows c
     loaded-long =
-        wide-less (few (asked .valid) (asked .below) room there)
-        (wide-alike (room .rows) (subst (λ (d : Columns). Alike d c₀) (sym (loaded .columns-are)) (alike-put c₀ 0 (askedRoutes bs n p))))
+        rows-less (few (asked .valid) (asked .below) room there) (room .rows)
+        (subst (λ (d : Columns). Alike d c₀) (sym (loaded .columns-are)) (alike-put c₀ 0 (askedRoutes bs n p)))
 
     pub loaded-placed : Placed n ids distances (front rows c)
     loaded-placed = subst (λ (m : ℕ). Placed m ids distances (front rows c)) (sym (asked .routers)) (placed (asked .valid) (asked .below) room there)

@@ -3,22 +3,24 @@ ghost use mathlib.Core.Path.{_≡_};
 ghost use Prim.Native.Nat.{_≤_};
 ghost use lib.ListN.{length};
 ghost use Rattle.model.specs.Lent.{was, is};
-ghost use Rattle.snapshot.specs.Tables.{columns};
-ghost use Rattle.load.specs.Load.{behindRoutes, placeFrom, Asked, Lends, Loaded, Forecast};
+ghost use Rattle.snapshot.specs.Limits.{mostInPrefix};
+ghost use Rattle.fill.specs.Fill.{behindRoutes};
+ghost use Rattle.load.specs.Load.{placeFrom, unmarked, Asked, Lends, Loaded, Forecast};
 use decide::Differing;
 
 // The place behind the routes that stand from a place on.
 fn behind_routes(input: &[u8], at: usize) -> usize
     requires { ⌜ at ≤ length (now input) ⌝ }
-    ensures { λ r. ⌜ r ≡ behindRoutes (was input) at ⌝ }
+    ensures { λ r. ⌜ r ≡ behindRoutes mostInPrefix (was input) at ⌝ }
 {
     let mut at = at;
     let mut left = snapshot::MOST_IN_PREFIX;
     while 0 < left {
-        if !fill::is_route(input, at) {
+        let kind = cursor::kind_at(input, at);
+        if !fill::is_route(input, at, kind) {
             return at;
         }
-        at += snapshot::ROUTE_SIZE;
+        at += snapshot::route_size(kind == 7);
         left -= 1;
     }
     at
@@ -41,7 +43,12 @@ fn place_of(input: &[u8], at: usize, more: usize) -> usize
     at
 }
 
-// Puts what a prefix is decided on into the tables; returns its number of routes, which stand in the first rows.
+fn no_column() -> [u32; rows::MOST_ROWS] {
+    [0u32; rows::MOST_ROWS]
+}
+
+// Puts what a prefix is decided on into the tables; returns its number of routes, which stand in the first rows. Nothing is decided on MED
+// marks: their column is gone when the decision begins.
 fn load(
     input: &[u8],
     n: usize,
@@ -53,19 +60,19 @@ fn load(
     preference: &mut [u32],
     path: &mut [u32],
     origin: &mut [u32],
-    mark: &mut [u32],
     med: &mut [u32],
     nid: &mut [u32],
     peer: &mut [u32],
 ) -> usize
-    requires { ⌜ Asked (now input) n prefix × Lends (now ids) (now distances) (columns (now router) (now asn) (now preference) (now path) (now origin) (now mark) (now med) (now nid) (now peer)) ⌝ }
-    ensures { λ rows. ⌜ Loaded (was input) n prefix (was ids) (was distances) (columns (was router) (was asn) (was preference) (was path) (was origin) (was mark) (was med) (was nid) (was peer))
-        rows (is ids) (is distances) (columns (is router) (is asn) (is preference) (is path) (is origin) (is mark) (is med) (is nid) (is peer)) ⌝ }
+    requires { ⌜ Asked (now input) n prefix × Lends (now ids) (now distances) (unmarked (now router) (now asn) (now preference) (now path) (now origin) (now med) (now nid) (now peer)) ⌝ }
+    ensures { λ rows. ⌜ Loaded (was input) n prefix (was ids) (was distances) (unmarked (was router) (was asn) (was preference) (was path) (was origin) (was med) (was nid) (was peer))
+        rows (is ids) (is distances) (unmarked (is router) (is asn) (is preference) (is path) (is origin) (is med) (is nid) (is peer)) ⌝ }
 {
     let routes = place_of(input, fill::behind_distances(n), prefix) + snapshot::PREFIX_SIZE;
     fill::fill_ids(input, n, ids);
     fill::fill_distances(input, n, distances);
-    pour::fill_routes(
+    let mut mark = no_column();
+    let end = pour::fill_routes(
         input,
         routes,
         0,
@@ -75,11 +82,12 @@ fn load(
         preference,
         path,
         origin,
-        mark,
+        &mut mark,
         med,
         nid,
         peer,
-    )
+    );
+    end.row
 }
 
 // The forecast of a prefix, by tables that are lent for it.
@@ -93,14 +101,13 @@ fn forecast_in(
     preference: &mut [u32],
     path: &mut [u32],
     origin: &mut [u32],
-    mark: &mut [u32],
     med: &mut [u32],
     nid: &mut [u32],
     peer: &mut [u32],
     early: &mut [u16],
     late: &mut [u16],
 ) -> Differing
-    requires { ⌜ Asked (now input) (length (now early)) prefix × Lends (now ids) (now distances) (columns (now router) (now asn) (now preference) (now path) (now origin) (now mark) (now med) (now nid) (now peer)) × (length (now late) ≡ length (now early)) ⌝ }
+    requires { ⌜ Asked (now input) (length (now early)) prefix × Lends (now ids) (now distances) (unmarked (now router) (now asn) (now preference) (now path) (now origin) (now med) (now nid) (now peer)) × (length (now late) ≡ length (now early)) ⌝ }
     ensures { λ d. ⌜ Forecast (was input) prefix d (is early) (is late) ⌝ }
 {
     let end = load(
@@ -114,7 +121,6 @@ fn forecast_in(
         preference,
         path,
         origin,
-        mark,
         med,
         nid,
         peer,
@@ -143,10 +149,6 @@ fn no_distances() -> [u32; snapshot::ROOM_DISTANCES] {
     [0u32; snapshot::ROOM_DISTANCES]
 }
 
-fn no_column() -> [u32; rows::MOST_ROWS] {
-    [0u32; rows::MOST_ROWS]
-}
-
 // The early and the late row of each router for the prefix of a number, and the routers that differ. There is one router for each
 // entry of `early`.
 pub fn forecast(input: &[u8], prefix: usize, early: &mut [u16], late: &mut [u16]) -> Differing
@@ -160,7 +162,6 @@ pub fn forecast(input: &[u8], prefix: usize, early: &mut [u16], late: &mut [u16]
     let mut preference = no_column();
     let mut path = no_column();
     let mut origin = no_column();
-    let mut mark = no_column();
     let mut med = no_column();
     let mut nid = no_column();
     let mut peer = no_column();
@@ -174,7 +175,6 @@ pub fn forecast(input: &[u8], prefix: usize, early: &mut [u16], late: &mut [u16]
         &mut preference,
         &mut path,
         &mut origin,
-        &mut mark,
         &mut med,
         &mut nid,
         &mut peer,

@@ -5,9 +5,15 @@ ghost use lib.ListN.{length};
 ghost use Rattle.model.specs.Lent.{was, is};
 ghost use Rattle.snapshot.specs.Limits.{mostPrefixes};
 ghost use Rattle.snapshot.specs.Tables.{columns, tables, putRoutes, Wide, Room};
-ghost use Rattle.fill.specs.Fill.{Spans, routesFrom, prefixesFrom, lists, putPrefixes, filledFrom, WideLists};
+ghost use Rattle.fill.specs.Fill.{Spans, routesFrom, behindRoutes, prefixesFrom, lists, putPrefixes, filledFrom, WideLists};
 
-// Puts the routes that stand from a place on into the columns, from a row on and while there is room; returns the row behind them.
+// Where routes end: the row and the place behind the last.
+pub struct End {
+    pub row: usize,
+    pub at: usize,
+}
+
+// Puts the routes that stand from a place on into the columns, from a row on and while there is room; returns where they end.
 pub fn fill_routes(
     input: &[u8],
     at: usize,
@@ -22,21 +28,23 @@ pub fn fill_routes(
     med: &mut [u32],
     nid: &mut [u32],
     peer: &mut [u32],
-) -> usize
+) -> End
     requires { ⌜ (at ≤ length (now input)) × (row ≤ room) × Wide room (columns (now router) (now asn) (now preference) (now path) (now origin) (now mark) (now med) (now nid) (now peer)) ⌝ }
-    ensures { λ r. ⌜ (r ≡ row + length (routesFrom (room - row) (was input) at))
+    ensures { λ r. ⌜ (r .row ≡ row + length (routesFrom (room - row) (was input) at)) × (r .at ≡ behindRoutes (room - row) (was input) at)
         × (columns (is router) (is asn) (is preference) (is path) (is origin) (is mark) (is med) (is nid) (is peer)
         ≡ putRoutes (columns (was router) (was asn) (was preference) (was path) (was origin) (was mark) (was med) (was nid) (was peer)) row (routesFrom (room - row) (was input) at)) ⌝ }
 {
     let mut at = at;
     let mut row = row;
     while row < room {
-        if !fill::is_route(input, at) {
-            return row;
+        let kind = cursor::kind_at(input, at);
+        if !fill::is_route(input, at, kind) {
+            return End { row, at };
         }
-        let r = cursor::route_at(input, at);
+        let four = kind == 7;
+        let r = cursor::route_at(input, at, four);
         let next = row + 1;
-        at += snapshot::ROUTE_SIZE;
+        at += snapshot::route_size(four);
         fill::put_route(
             row,
             r,
@@ -52,7 +60,7 @@ pub fn fill_routes(
         );
         row = next;
     }
-    row
+    End { row, at }
 }
 
 // Puts so many prefixes that stand from a place on, each with its routes, into the front of the columns.
@@ -103,10 +111,10 @@ fn fill_prefixes(
             nid,
             peer,
         );
-        let inside = end - row;
-        at += snapshot::PREFIX_SIZE + snapshot::ROUTE_SIZE * inside;
+        let inside = end.row - row;
+        at = end.at;
         fill::put_prefix(p, network, inside as u32, address, bits, routes);
-        row = end;
+        row = end.row;
         p = next;
     }
 }

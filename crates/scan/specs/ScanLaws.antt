@@ -20,11 +20,11 @@ use Rattle.snapshot.specs.declared.Route.{Route}
 use Rattle.snapshot.specs.Limits.{mostPrefixes, mostInPrefix, mostRoutes}
 use Rattle.snapshot.specs.Ranges.{rises, risesRoute}
 use Rattle.snapshot.specs.Plain.{routeIs}
-use Rattle.snapshot.specs.Records.{forms, countForm, routerForm, distanceForm, prefixForm, routeForm, endForm, size, valuesAt}
+use Rattle.snapshot.specs.Records.{Form, forms, only, countForm, routerForm, distanceForm, prefixForm, routeFormBy, routeForms, endForm, formOf, stands, size, valuesAt}
 use Rattle.snapshot.specs.Format.{Snapshot, Prefix, Pair, pairs, row, rows, records, routesIn, latest, Check, Holds}
 use Rattle.snapshot.specs.Reading.{Answer, accepted, refused, unless, prefixExtra, prefixValues, prefixRecord, routeExtra, routeValues, routeRecord, endRecord, openRoutes, addRoute, withPrefixes, prefixOf, routeOf, tail, items, distanceRecord, distances, routerRecord, routers, countRecord, reading}
 use Rattle.snapshot.specs.ChecksLaws.{judged-cases, passed, length-snoc, latest-snoc, routesIn-append, routesIn-add, length-add, some-prefix}
-use Rattle.snapshot.specs.PlaceLaws.{reading-count, routers-one, routers-none, distances-one, distances-none, items-one-prefix, items-one-route, items-last, tail-none, tail-some}
+use Rattle.snapshot.specs.PlaceLaws.{kind-at, reading-count, routers-one, routers-none, distances-one, distances-none, items-one-prefix, items-one-route, items-last, tail-none, tail-some}
 use Rattle.snapshot.specs.PairsLaws.{due-row, due-equal, due-other, due-row-end, due-end}
 use Rattle.cursor.specs.declared.Cursor.{Cursor}
 use Rattle.cursor.specs.declared.Network.{Network}
@@ -38,7 +38,7 @@ use Rattle.cursor.specs.declared.RouteStep.the-variants as routeStep
 use Rattle.cursor.specs.declared.EndStep.{EndStep}
 use Rattle.cursor.specs.declared.EndStep.the-variants as endStep
 use Rattle.cursor.specs.Steps.{begin, after, due, idAt, routerPlace, idsAt, prefixNext, routeNext, networkAt, routeAt, took, stepSaid, prefixSaid, routeSaid, endSaid, judgedAt, ending, lateBehind, Tells}
-use Rattle.cursor.specs.StepsLaws.{prefix-told, route-told}
+use Rattle.cursor.specs.StepsLaws.{prefix-told, route-told, route-says}
 use Rattle.cursor.specs.Theorems.{step-tells, prefix-tells, route-tells, end-tells}
 use Rattle.scan.specs.declared.Read.{Read}
 use Rattle.scan.specs.declared.Read.the-variants as read
@@ -373,7 +373,7 @@ module _ {bs : List ℕ} {c : Cursor} {k : Sofar} (i : Items bs c k) where
         let same : prefixStep.Took (after c prefixForm) (networkAt bs at) ≡ prefixStep.Took next p = prefix-tells (prefixStep.Took (after c prefixForm) (networkAt bs at)) x d ∙ taken in
         let to : after c prefixForm ≡ next = cc in
         let is : networkAt bs at ≡ p = cc in
-        let q = passed forms prefixForm (prefixExtra (i .s)) (prefixValues (i .s)) (drop at bs) hold in
+        let q = passed forms (only prefixForm) (prefixExtra (i .s)) (prefixValues (i .s)) (drop at bs) hold in
         let few : length (i .s .prefixes) < mostPrefixes = ltb→lt _ _ (q .free .0) in
         let count : k .prefixes ≡ length (i .s .prefixes) = i .tells .prefixes in
         let ps = i .s .prefixes in
@@ -397,22 +397,28 @@ module _ {bs : List ℕ} {c : Cursor} {k : Sofar} (i : Items bs c k) where
         ))
 
   -- ---- a route
-  module _ (is : getD bs (c .at) 0 ≡ 5) where
+  module _ (is : T (stands routeForms (getD bs (c .at) 0))) where
+    abbrev four : Bool
+    four = eqb (getD bs at 0) 7
+
+    abbrev form : Form
+    form = routeFormBy four
+
     abbrev routeStepOf : Said
-    routeStepOf = judgedAt at (routeNext k (drop at bs)) (took (after c routeForm) (valuesAt routeForm bs at))
+    routeStepOf = judgedAt at (routeNext k (drop at bs)) (took (after c form) (valuesAt form bs at))
 
     abbrev routed : Snapshot
-    routed = withPrefixes (i .s) (addRoute (i .s .prefixes) (routeOf (valuesAt routeForm bs at)))
+    routed = withPrefixes (i .s) (addRoute (i .s .prefixes) (routeOf (valuesAt form bs at)))
 
     route-cases : {G : Type 0} (x : Said) → x ≡ routeStepOf
         → ((r : Refusal) → refuses r at ≡ x → reading bs ≡ refused r at → G)
-        → (Holds (routeRecord (i .s) (drop at bs)) → took (after c routeForm) (valuesAt routeForm bs at) ≡ x
-        → reading bs ≡ items routed (at + size routeForm) (drop (at + size routeForm) bs) → G)
+        → (Holds (routeRecord (i .s) (drop at bs)) → took (after c form) (valuesAt form bs at) ≡ x
+        → reading bs ≡ items routed (at + size form) (drop (at + size form) bs) → G)
         → G
     route-cases x e f g =
-        judged-cases (routeRecord (i .s) (drop at bs)) (λ f. refuses f at) (λ _. took (after c routeForm) (valuesAt routeForm bs at))
-        (λ r. refused r at) (λ _. items routed (at + size routeForm) (drop (at + size routeForm) bs))
-        x (ap (λ (l : List Check). judgedAt at l (took (after c routeForm) (valuesAt routeForm bs at))) (route-told (i .tells) (drop at bs)) ∙ sym e)
+        judged-cases (routeRecord (i .s) (drop at bs)) (λ f. refuses f at) (λ _. took (after c form) (valuesAt form bs at))
+        (λ r. refused r at) (λ _. items routed (at + size form) (drop (at + size form) bs))
+        x (ap (λ (l : List Check). judgedAt at l (took (after c form) (valuesAt form bs at))) (route-told (i .tells) (drop at bs)) ∙ sym e)
         (λ r d h. f r d (i .same ∙ items-one-route bs at (i .s) is ∙ h))
         (λ p d h. g p d (i .same ∙ items-one-route bs at (i .s) is ∙ h))
 
@@ -429,39 +435,39 @@ module _ {bs : List ℕ} {c : Cursor} {k : Sofar} (i : Items bs c k) where
         route-cases (routeSaid x) e
         (λ f d h. absurd (gives-refuses f at _ (sym (d ∙ ap routeSaid taken))))
         (λ hold d h.
-        let same : routeStep.Took (after c routeForm) (routeAt bs at) ≡ routeStep.Took next r = route-tells (routeStep.Took (after c routeForm) (routeAt bs at)) x d ∙ taken in
-        let to : after c routeForm ≡ next = cc in
-        let is : routeAt bs at ≡ r = cc in
-        let q = passed forms routeForm (routeExtra (i .s)) (routeValues (i .s)) (drop at bs) hold in
+        let same : routeStep.Took (after c form) (routeAt bs at four) ≡ routeStep.Took next r = route-tells (routeStep.Took (after c form) (routeAt bs at four)) x (route-says (after c form) bs at four ∙ d) ∙ taken in
+        let to : after c form ≡ next = cc in
+        let is : routeAt bs at four ≡ r = cc in
+        let q = passed forms routeForms (routeExtra (i .s)) (routeValues (i .s)) (drop at bs) hold in
         let ps = i .s .prefixes in
         let some = q .free .0 in
         let few : length (openRoutes ps) < mostInPrefix = ltb→lt _ _ (q .free .1 .0) in
         let all : routesIn ps < mostRoutes = ltb→lt _ _ (q .free .1 .1 .0) in
         let inside : k .inside ≡ length (openRoutes ps) = i .tells .inside in
         let routes : k .routes ≡ routesIn ps = i .tells .routes in
-        let v : model.Route = routeOf (valuesAt routeForm bs at) in
-        let size : length (addRoute ps v) ≡ length ps = some-prefix (λ ps. length (addRoute ps v) ≡ length ps) (λ p ps. length-add p ps v) ps some in
+        let v : model.Route = routeOf (valuesAt form bs at) in
+        let same-length : length (addRoute ps v) ≡ length ps = some-prefix (λ ps. length (addRoute ps v) ≡ length ps) (λ p ps. length-add p ps v) ps some in
         let more : routesIn (addRoute ps v) ≡ suc (routesIn ps) = some-prefix (λ ps. routesIn (addRoute ps v) ≡ suc (routesIn ps)) (λ p ps. routesIn-add p ps v) ps some in
         let number : c .records ≡ records (i .s) = i .count in
         let low : c .records ≤ c .at = i .low in
-        let body = within-body bs at _ (q .whole) in (
+        let body : at + size form ≤ length bs = subst (λ (k : ℕ). at + size (formOf routeForms k) ≤ length bs) (kind-at bs at) (within-body bs at _ (q .whole)) in (
           omega arith,
           omega arith,
           subst (λ (c : Cursor). Items bs c (moreRoute k r)) to
-              (subst (λ (r : Route). Items bs (after c routeForm) (moreRoute k r)) is
-              (record { s = routed; same = h; tells = tells-route (i .tells) (routeAt bs at) some; count = omega arith; low = omega arith })),
+              (subst (λ (r : Route). Items bs (after c form) (moreRoute k r)) is
+              (record { s = routed; same = h; tells = tells-route (i .tells) (routeAt bs at four) some; count = omega arith; low = omega arith })),
           subst (λ (n : Cursor). c .at < n .at) to (omega arith),
           subst (λ (n : Cursor). n .at ≤ length bs) to body,
         ))
 
   -- ---- the end
-  module _ (no4 : getD bs (c .at) 0 ≢ 4) (no5 : getD bs (c .at) 0 ≢ 5) where
+  module _ (no4 : getD bs (c .at) 0 ≢ 4) (other : T (not (stands routeForms (getD bs (c .at) 0)))) where
     abbrev endStepOf : Said
     endStepOf = judgedAt at (endRecord forms (c .records) (drop at bs)) (ending bs (at + 5))
 
     last : reading bs ≡ unless (endRecord forms (c .records) (drop at bs)) at λ _. tail (i .s) (at + size endForm) (drop (at + size endForm) bs)
     last =
-        i .same ∙ items-last bs at (i .s) no4 no5
+        i .same ∙ items-last bs at (i .s) no4 other
         ∙ ap (λ (n : ℕ). unless (endRecord forms n (drop at bs)) at λ _. tail (i .s) (at + size endForm) (drop (at + size endForm) bs)) (sym (i .count))
 
     counts-told : answered k endStep.Ended ≡ told (accepted (i .s))

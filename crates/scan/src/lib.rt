@@ -3,7 +3,10 @@ ghost use mathlib.Core.Path.{_≡_};
 ghost use Prim.Native.Nat.{_+_, _<_};
 ghost use mathlib.Core.Logic.{_≢_};
 ghost use mathlib.Core.List.{[]};
+ghost use mathlib.Core.Bool.{not};
+ghost use lib.Dec.{T};
 ghost use lib.ListN.{getD};
+ghost use Rattle.snapshot.specs.Records.{routeForms, stands};
 ghost use Rattle.snapshot.specs.Limits.{mostPrefixes, mostInPrefix, mostRoutes};
 ghost use Rattle.snapshot.specs.Format.{pairs};
 ghost use Rattle.snapshot.specs.Reading.{reading};
@@ -139,7 +142,7 @@ fn with_route(k: Sofar, r: Route) -> Sofar
 
 // The answer at the end record.
 fn finish(c: Cursor, input: &[u8], k: Sofar) -> Read
-    requires { ⌜ Items (now input) c k × (getD (now input) (c .at) 0 ≢ 4) × (getD (now input) (c .at) 0 ≢ 5) ⌝ }
+    requires { ⌜ Items (now input) c k × (getD (now input) (c .at) 0 ≢ 4) × T (not (stands routeForms (getD (now input) (c .at) 0))) ⌝ }
     ensures { λ r. ⌜ r ≡ told (reading (now (input .entry))) ⌝ }
 {
     match c.end(input) {
@@ -157,17 +160,20 @@ fn one_item(c: Cursor, input: &[u8], k: Sofar) -> Item
     requires { ⌜ Items (now input) c k ⌝ }
     ensures { λ r. ⌜ Follows (now (input .entry)) c r ⌝ }
 {
-    match cursor::kind_at(input, c.at) {
-        4 => match c.prefix(input, k) {
+    let kind = cursor::kind_at(input, c.at);
+    if kind == 4 {
+        return match c.prefix(input, k) {
             PrefixStep::Refused(r, at) => Item::Over(Read::Refused(r, at)),
             PrefixStep::Took(next, p) => Item::Next(next, with_prefix(k, p)),
-        },
-        5 => match c.route(input, k) {
+        };
+    }
+    if snapshot::route_stands(kind) {
+        return match c.route(input, k) {
             RouteStep::Refused(r, at) => Item::Over(Read::Refused(r, at)),
             RouteStep::Took(next, r) => Item::Next(next, with_route(k, r)),
-        },
-        _ => Item::Over(finish(c, input, k)),
+        };
     }
+    Item::Over(finish(c, input, k))
 }
 
 // The prefixes and their routes, to the end of the input.

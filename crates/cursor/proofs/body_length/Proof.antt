@@ -14,6 +14,7 @@ body-length-spec =
     (λ c. rw (c .match .keys5))
     (λ c. rw (c .match .keys6))
     (λ c. rw (c .match .keys7))
+    (λ c. rw (c .match .keys8))
     (λ c.
     let n = c .match .rest .0 in
-    simp (ne-eqb _ _ (n .1), ne-eqb _ _ (n .0 .1), ne-eqb _ _ (n .0 .0 .1), ne-eqb _ _ (n .0 .0 .0 .1), ne-eqb _ _ (n .0 .0 .0 .0 .1), ne-eqb _ _ (n .0 .0 .0 .0 .0 .1))))
+    simp (ne-eqb _ _ (n .1), ne-eqb _ _ (n .0 .1), ne-eqb _ _ (n .0 .0 .1), ne-eqb _ _ (n .0 .0 .0 .1), ne-eqb _ _ (n .0 .0 .0 .0 .1), ne-eqb _ _ (n .0 .0 .0 .0 .0 .1), ne-eqb _ _ (n .0 .0 .0 .0 .0 .0 .1))))

@@ -18,8 +18,6 @@ forecast-spec =
     (λ c κs. search needs)
     (λ c κs. search needs)
     (λ c κs. search needs)
-    (λ c κs. search needs)
-    (λ c. search needs)
     (λ c. search needs)
     (λ c. search needs)
     (λ c. search needs)
@@ -32,7 +30,7 @@ forecast-spec =
     (λ c. search needs)
     (λ c κs.
     let s : tie.Start = search needs in
-    (s .pre .0, record { ids-long = omega arith; distances-long = omega arith; rows = record { router = omega arith; asn = omega arith; preference = omega arith; path = omega arith; origin = omega arith; mark = omega arith; med = omega arith; nid = omega arith; peer = omega arith } }, s .pre .1))
+    (s .pre .0, record { ids-long = omega arith; distances-long = omega arith; rows = record { router = omega arith; asn = omega arith; preference = omega arith; path = omega arith; origin = omega arith; med = omega arith; nid = omega arith; peer = omega arith } }, s .pre .1))
     (λ c. search needs)
     (λ c. search needs)
     (λ c. search needs))

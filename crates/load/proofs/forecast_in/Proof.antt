@@ -135,7 +135,6 @@ forecast-in-spec =
     (λ c. let d : tie.After-decided = search needs in loading d .load .kept .1 .1 .1 .1 .1 .1 .1 .1 .1 .1 .0)
     (λ c. let d : tie.After-decided = search needs in loading d .load .kept .1 .1 .1 .1 .1 .1 .1 .1 .1 .1 .1 .0)
     (λ c. let d : tie.After-decided = search needs in loading d .load .kept .1 .1 .1 .1 .1 .1 .1 .1 .1 .1 .1 .1 .0)
-    (λ c. let d : tie.After-decided = search needs in loading d .load .kept .1 .1 .1 .1 .1 .1 .1 .1 .1 .1 .1 .1 .1 .0)
     (λ c. search needs)
     (λ c. search needs)
     returns)

@@ -1,10 +1,9 @@
 -- `fill_prefixes` meets its contract: by `Listed`, a law a turn. Assumes nothing.
 use borrow.Author.Needs.{needs}
 use native.Mathlib.Omega.{arith}
-use denote.Ref.{now}
 use mathlib.Core.Path.{ap, _∙_}
-use Prim.Native.Nat.{_+_, _-_, _*_, _≤_}
-use lib.ListN.{length, set}
+use Prim.Native.Nat.{_-_, _≤_}
+use lib.ListN.{set}
 use Rattle.snapshot.specs.Limits.{mostRoutes}
 use Rattle.snapshot.specs.Tables.{columns}
 use Rattle.cursor.specs.declared.Network.{Network}
@@ -23,22 +22,23 @@ abbrev μ-loop : tie.MeasureT-loop
 abbrev start : tie.In-loop Inv-loop μ-loop → tie.Start Inv-loop μ-loop
 start c = search needs
 
--- the turn in which the routes of a prefix were filled
+-- where the prefix was read whose routes were filled, and that turn
+abbrev network : tie.After-fill-routes Inv-loop μ-loop → tie.After-network-at Inv-loop μ-loop
+network f = search needs
+
 abbrev turn : tie.After-fill-routes Inv-loop μ-loop → tie.In-loop Inv-loop μ-loop
-turn f = f .before .before .before .before .before .before .before .before .before .before .before .before
+turn f = network f .before .before
 
--- a slice is no longer than memory
-small : (l : tie.In-loop Inv-loop μ-loop) → length (now (start l .args .input)) ≤ 9223372036854775807
-small l = omega arith
+-- where the routes of a prefix that was put were filled
+abbrev filled : tie.After-put-prefix Inv-loop μ-loop → tie.After-fill-routes Inv-loop μ-loop
+filled q = search needs
 
--- they end within the input and the columns
-room : (f : tie.After-fill-routes Inv-loop μ-loop) → let t = turn f .before .loop in let end = f .fill-routes .result in
-    (t .at + 6 + 24 * (end - t .row) ≤ length (now (start (turn f) .args .input))) × (t .row ≤ end) × (end ≤ mostRoutes)
+-- they end within the columns
+room : (f : tie.After-fill-routes Inv-loop μ-loop) → let row = turn f .before .loop .row in let end = f .fill-routes .result .row in (row ≤ end) × (end ≤ mostRoutes)
 room f =
-    let e : tie.Else1 Inv-loop μ-loop = f .before .before .before .before .before .before .before .before .before .before .before in
-    let k = listed-room (turn f .before .loop .inv) (e .if1 .left) in
+    let k = listed-room (turn f .before .loop .inv) (network f .before .if1 .left) in
     let r = f .fill-routes .ensures .0 in
-    (omega (arith, k .0, r), omega (arith, r), omega (arith, k .1, r))
+    (omega (arith, r), omega (arith, k .1, r))
 
 pub fill-prefixes-spec : {M : Type 1} → statement M
 fill-prefixes-spec =
@@ -70,28 +70,25 @@ fill-prefixes-spec =
     let l = e .before in
     let w = wide-lists (start l .pre .2) (listed-alike (l .before .loop .inv)) in
     (e .if1 .left, l .before .loop .inv .few, w .rows))
-    (λ c. room (c .before .before .before .before .before .before .before .before .before .before .before .before .before .before .before .before .before .before) .1)
-    (λ c. let r = room (c .before .before .before .before .before .before .before .before .before .before .before .before .before .before .before .before .before .before) in omega (arith, r .2))
-    (λ c. let r = room (c .before .before .before .before .before .before .before .before .before .before .before .before .before .before .before .before .before .before) in omega (arith, r .2))
-    (λ c. let r = room (c .before .before .before .before .before .before .before .before .before .before .before .before .before .before .before .before .before .before) in let l = turn (c .before .before .before .before .before .before .before .before .before .before .before .before .before .before .before .before .before .before) in omega (arith, r .0, small l))
-    (λ c. let r = room (c .before .before .before .before .before .before .before .before .before .before .before .before .before .before .before .before .before .before) in omega (arith, r .2))
+    (λ c. room (search needs) .0)
+    (λ c. let r = room (search needs) in omega (arith, r .1))
     (λ c κs.
-    let l = turn (c .before .before .before .before .before .before .before .before .before .before .before .before .before .before .before .before .before .before .before .before .before) in
+    let l = turn (search needs) in
     let w = wide-lists (start l .pre .2) (listed-alike (l .before .loop .inv)) in
     let m = start l .pre .1 in
     let t = l .loop-test .taken in
     (omega (arith, w .address, m, t), omega (arith, w .bits, m, t), omega (arith, w .routes, m, t)))
-    (λ c. let l = turn (c .before .before .before .before .before .before .before .before .before .before .before .before .before .before .before .before .before .before .before .before .before .before .before .before .before .before .before .before) in omega (arith, l .loop-test .taken))
+    (λ c. let l = turn (search needs) in omega (arith, l .loop-test .taken))
     (λ c.
-    let q : tie.After-put-prefix Inv-loop μ-loop = c .before .before .before .before .before .before in
-    let f : tie.After-fill-routes Inv-loop μ-loop = q .before .before .before .before .before .before .before .before .before .before .before .before .before .before .before .before .before .before .before .before .before .before in
-    let g : tie.After-network-at Inv-loop μ-loop = f .before .before .before .before .before .before .before .before .before .before in
+    let q : tie.After-put-prefix Inv-loop μ-loop = search needs in
+    let f = filled q in
+    let g = network f in
     let l = turn f in
     let t = l .before .loop in
-    listed-next (t .inv) (l .loop-test .taken) (g .before .if1 .left) (f .fill-routes .ensures .0)
+    listed-next (t .inv) (l .loop-test .taken) (g .before .if1 .left) (f .fill-routes .ensures .0) (f .fill-routes .ensures .1)
     (q .put-prefix .ensures .0 ∙ ap (λ (n : Network). set (t .address) (t .p) (n .address)) (g .network-at .ensures))
     (q .put-prefix .ensures .1 ∙ ap (λ (n : Network). set (t .bits) (t .p) (n .bits)) (g .network-at .ensures))
-    (q .put-prefix .ensures .2) (f .fill-routes .ensures .1))
+    (q .put-prefix .ensures .2) (f .fill-routes .ensures .2))
     (λ c. omega (arith, listed-alike (c .before .loop .inv)))
     (λ c. omega (arith, listed-alike (c .before .loop .inv)))
     (λ c. omega (arith, listed-alike (c .before .loop .inv)))

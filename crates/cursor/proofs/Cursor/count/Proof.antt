@@ -13,7 +13,7 @@ use Rattle.cursor.specs.declared.Step.the-variants.{Took}
 use Rattle.cursor.specs.StepsLaws.{opened, at-opening, at-values, at-end, no-extra}
 use mathlib.Core.Path.{ap₂}
 use mathlib.Core.List.{[]}
-use Rattle.snapshot.specs.Records.{forms, countForm, valuesAt}
+use Rattle.snapshot.specs.Records.{forms, only, countForm, valuesAt}
 use Rattle.snapshot.specs.Format.{countChecks}
 use Rattle.snapshot.specs.Reading.{countValues, countRecord}
 use Rattle.cursor.specs.Steps.{finding, bodyLength, openingChecks, after, took, stepSaid}
@@ -48,7 +48,7 @@ count-spec =
     let o : tie.After-opening = search needs in
     let bs = now (s .args .input) in
     let at = s .args .self .at in
-    at-opening forms bs at countForm ([]) (false) (false) (countValues) (λ f. refuses f at) (λ _. took (after (s .args .self) countForm) (valuesAt countForm bs at)) refl (no-extra _) (sym (c .before .f .given .1) ∙ o .opening .ensures))
+    at-opening forms bs at (only countForm) ([]) (false) (false) (countValues) (λ f. refuses f at) (λ _. took (after (s .args .self) countForm) (valuesAt countForm bs at)) refl (no-extra _) (sym (c .before .f .given .1) ∙ o .opening .ensures))
     (λ c.
     let s : tie.Start = search needs in
     let o : tie.After-opening = search needs in
@@ -56,7 +56,7 @@ count-spec =
     let at = s .args .self .at in
     let v : tie.After-count-faults = search needs in
     let g : tie.After-get8 = search needs in
-    at-values forms bs at countForm ([]) (false) (false) (countValues) (λ f. refuses f at) (λ _. took (after (s .args .self) countForm) (valuesAt countForm bs at)) refl (no-extra _) (clear (search needs)) (sym (c .before .f2 .given .1) ∙ v .count-faults .ensures ∙ ap (λ (n : ℕ). finding (countChecks n)) (g .get8 .ensures)))
+    at-values forms bs at (only countForm) ([]) (false) (false) (countValues) (λ f. refuses f at) (λ _. took (after (s .args .self) countForm) (valuesAt countForm bs at)) refl (no-extra _) (clear (search needs)) (sym (c .before .f2 .given .1) ∙ v .count-faults .ensures ∙ ap (λ (n : ℕ). finding (countChecks n)) (g .get8 .ensures)))
     (λ c.
     let s : tie.Start = search needs in
     let o : tie.After-opening = search needs in
@@ -65,4 +65,4 @@ count-spec =
     let v : tie.After-count-faults = search needs in
     let g : tie.After-get8 = search needs in
     let e : tie.After-enum-told2 = search needs in
-    ap₂ (λ (c : Cursor) (n : ℕ). stepSaid (Took c n)) (c .past .ensures) (g .get8 .ensures) ∙ at-end forms bs at countForm ([]) (false) (false) (countValues) (λ f. refuses f at) (λ _. took (after (s .args .self) countForm) (valuesAt countForm bs at)) refl (no-extra _) (clear (search needs)) (sym (e .enum-told2 .given .1) ∙ v .count-faults .ensures ∙ ap (λ (n : ℕ). finding (countChecks n)) (g .get8 .ensures))))
+    ap₂ (λ (c : Cursor) (n : ℕ). stepSaid (Took c n)) (c .past .ensures) (g .get8 .ensures) ∙ at-end forms bs at (only countForm) ([]) (false) (false) (countValues) (λ f. refuses f at) (λ _. took (after (s .args .self) countForm) (valuesAt countForm bs at)) refl (no-extra _) (clear (search needs)) (sym (e .enum-told2 .given .1) ∙ v .count-faults .ensures ∙ ap (λ (n : ℕ). finding (countChecks n)) (g .get8 .ensures))))

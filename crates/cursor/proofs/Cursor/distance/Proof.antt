@@ -13,7 +13,7 @@ use Rattle.cursor.specs.declared.Step.the-variants.{Took}
 use Rattle.cursor.specs.StepsLaws.{opened, at-opening, at-values, at-end, no-extra}
 use mathlib.Core.Path.{ap₂}
 use mathlib.Core.List.{[], _∷_}
-use Rattle.snapshot.specs.Records.{forms, distanceForm, valuesAt}
+use Rattle.snapshot.specs.Records.{forms, only, distanceForm, valuesAt}
 use Rattle.snapshot.specs.Format.{distanceChecks}
 use Rattle.snapshot.specs.Reading.{distanceValues, distanceRecord}
 use Rattle.cursor.specs.Steps.{finding, bodyLength, openingChecks, after, due, took, stepSaid}
@@ -52,7 +52,7 @@ distance-spec =
     let o : tie.After-opening = search needs in
     let bs = now (s .args .input) in
     let at = s .args .self .at in
-    at-opening forms bs at distanceForm ([]) (false) (false) (distanceValues (s .args .routers) (due (s .args .from) (s .args .to))) (λ f. refuses f at) (λ _. took (after (s .args .self) distanceForm) (getD (valuesAt distanceForm bs at) 2 0 ∷ [])) refl (no-extra _) (sym (c .before .f .given .1) ∙ o .opening .ensures))
+    at-opening forms bs at (only distanceForm) ([]) (false) (false) (distanceValues (s .args .routers) (due (s .args .from) (s .args .to))) (λ f. refuses f at) (λ _. took (after (s .args .self) distanceForm) (getD (valuesAt distanceForm bs at) 2 0 ∷ [])) refl (no-extra _) (sym (c .before .f .given .1) ∙ o .opening .ensures))
     (λ c.
     let s : tie.Start = search needs in
     let o : tie.After-opening = search needs in
@@ -62,7 +62,7 @@ distance-spec =
     let g : tie.After-get32 = search needs in
     let h : tie.After-get8 = search needs in
     let i : tie.After-get82 = search needs in
-    at-values forms bs at distanceForm ([]) (false) (false) (distanceValues (s .args .routers) (due (s .args .from) (s .args .to))) (λ f. refuses f at) (λ _. took (after (s .args .self) distanceForm) (getD (valuesAt distanceForm bs at) 2 0 ∷ [])) refl (no-extra _) (clear (search needs)) (sym (c .before .f2 .given .1) ∙ v .distance-faults .ensures ∙ ap₂ (λ (a b : ℕ). finding (distanceChecks (s .args .routers) (due (s .args .from) (s .args .to)) a b (g .get32 .result))) (h .get8 .ensures) (i .get82 .ensures) ∙ ap (λ (d : ℕ). finding (distanceChecks (s .args .routers) (due (s .args .from) (s .args .to)) (getD (valuesAt distanceForm bs at) 0 0) (getD (valuesAt distanceForm bs at) 1 0) d)) (g .get32 .ensures)))
+    at-values forms bs at (only distanceForm) ([]) (false) (false) (distanceValues (s .args .routers) (due (s .args .from) (s .args .to))) (λ f. refuses f at) (λ _. took (after (s .args .self) distanceForm) (getD (valuesAt distanceForm bs at) 2 0 ∷ [])) refl (no-extra _) (clear (search needs)) (sym (c .before .f2 .given .1) ∙ v .distance-faults .ensures ∙ ap₂ (λ (a b : ℕ). finding (distanceChecks (s .args .routers) (due (s .args .from) (s .args .to)) a b (g .get32 .result))) (h .get8 .ensures) (i .get82 .ensures) ∙ ap (λ (d : ℕ). finding (distanceChecks (s .args .routers) (due (s .args .from) (s .args .to)) (getD (valuesAt distanceForm bs at) 0 0) (getD (valuesAt distanceForm bs at) 1 0) d)) (g .get32 .ensures)))
     (λ c.
     let s : tie.Start = search needs in
     let o : tie.After-opening = search needs in
@@ -73,4 +73,4 @@ distance-spec =
     let h : tie.After-get8 = search needs in
     let i : tie.After-get82 = search needs in
     let e : tie.After-enum-told2 = search needs in
-    ap₂ (λ (c : Cursor) (n : ℕ). stepSaid (Took c n)) (c .past .ensures) (g .get32 .ensures) ∙ at-end forms bs at distanceForm ([]) (false) (false) (distanceValues (s .args .routers) (due (s .args .from) (s .args .to))) (λ f. refuses f at) (λ _. took (after (s .args .self) distanceForm) (getD (valuesAt distanceForm bs at) 2 0 ∷ [])) refl (no-extra _) (clear (search needs)) (sym (e .enum-told2 .given .1) ∙ v .distance-faults .ensures ∙ ap₂ (λ (a b : ℕ). finding (distanceChecks (s .args .routers) (due (s .args .from) (s .args .to)) a b (g .get32 .result))) (h .get8 .ensures) (i .get82 .ensures) ∙ ap (λ (d : ℕ). finding (distanceChecks (s .args .routers) (due (s .args .from) (s .args .to)) (getD (valuesAt distanceForm bs at) 0 0) (getD (valuesAt distanceForm bs at) 1 0) d)) (g .get32 .ensures))))
+    ap₂ (λ (c : Cursor) (n : ℕ). stepSaid (Took c n)) (c .past .ensures) (g .get32 .ensures) ∙ at-end forms bs at (only distanceForm) ([]) (false) (false) (distanceValues (s .args .routers) (due (s .args .from) (s .args .to))) (λ f. refuses f at) (λ _. took (after (s .args .self) distanceForm) (getD (valuesAt distanceForm bs at) 2 0 ∷ [])) refl (no-extra _) (clear (search needs)) (sym (e .enum-told2 .given .1) ∙ v .distance-faults .ensures ∙ ap₂ (λ (a b : ℕ). finding (distanceChecks (s .args .routers) (due (s .args .from) (s .args .to)) a b (g .get32 .result))) (h .get8 .ensures) (i .get82 .ensures) ∙ ap (λ (d : ℕ). finding (distanceChecks (s .args .routers) (due (s .args .from) (s .args .to)) (getD (valuesAt distanceForm bs at) 0 0) (getD (valuesAt distanceForm bs at) 1 0) d)) (g .get32 .ensures))))

@@ -14,7 +14,7 @@ use Rattle.cursor.specs.StepsLaws.{opened, at-opening, at-values, at-end
 use mathlib.Core.Path.{ap₂}
 use lib.Dec.{leb}
 use Rattle.snapshot.specs.Limits.{mostPrefixes}
-use Rattle.snapshot.specs.Records.{forms, prefixForm, valuesAt}
+use Rattle.snapshot.specs.Records.{forms, only, prefixForm, valuesAt}
 use Rattle.snapshot.specs.Reading.{prefixRoom}
 use Rattle.cursor.specs.declared.Network.{Network}
 use Rattle.cursor.specs.Steps.{finding, bodyLength, openingChecks, after, prefixFaults, prefixNext, took, prefixSaid}
@@ -50,7 +50,7 @@ prefix-spec =
     let bs = now (s .args .input) in
     let at = s .args .self .at in
     let k = s .args .k in
-    at-opening forms bs at prefixForm (prefixRoom (k .prefixes)) (false) (leb mostPrefixes (k .prefixes)) (λ v. prefixFaults k (getD v 0 0) (getD v 1 0)) (λ f. refuses f at) (λ _. took (after (s .args .self) prefixForm) (valuesAt prefixForm bs at)) refl (prefix-room k _) (sym (c .before .f .given .1) ∙ o .opening .ensures))
+    at-opening forms bs at (only prefixForm) (prefixRoom (k .prefixes)) (false) (leb mostPrefixes (k .prefixes)) (λ v. prefixFaults k (getD v 0 0) (getD v 1 0)) (λ f. refuses f at) (λ _. took (after (s .args .self) prefixForm) (valuesAt prefixForm bs at)) refl (prefix-room k _) (sym (c .before .f .given .1) ∙ o .opening .ensures))
     (λ c.
     let s : tie.Start = search needs in
     let o : tie.After-opening = search needs in
@@ -59,7 +59,7 @@ prefix-spec =
     let v : tie.After-prefix-faults = search needs in
     let g : tie.After-network-at = search needs in
     let k = s .args .k in
-    at-values forms bs at prefixForm (prefixRoom (k .prefixes)) (false) (leb mostPrefixes (k .prefixes)) (λ v. prefixFaults k (getD v 0 0) (getD v 1 0)) (λ f. refuses f at) (λ _. took (after (s .args .self) prefixForm) (valuesAt prefixForm bs at)) refl (prefix-room k _) (clear (search needs)) (sym (c .before .f2 .given .1) ∙ v .prefix-faults .ensures ∙ ap (λ (p : Network). finding (prefixFaults k (p .address) (p .bits))) (g .network-at .ensures)))
+    at-values forms bs at (only prefixForm) (prefixRoom (k .prefixes)) (false) (leb mostPrefixes (k .prefixes)) (λ v. prefixFaults k (getD v 0 0) (getD v 1 0)) (λ f. refuses f at) (λ _. took (after (s .args .self) prefixForm) (valuesAt prefixForm bs at)) refl (prefix-room k _) (clear (search needs)) (sym (c .before .f2 .given .1) ∙ v .prefix-faults .ensures ∙ ap (λ (p : Network). finding (prefixFaults k (p .address) (p .bits))) (g .network-at .ensures)))
     (λ c.
     let s : tie.Start = search needs in
     let o : tie.After-opening = search needs in
@@ -69,4 +69,4 @@ prefix-spec =
     let g : tie.After-network-at = search needs in
     let e : tie.After-enum-told2 = search needs in
     let k = s .args .k in
-    ap₂ (λ (c : Cursor) (p : Network). prefixSaid (Took c p)) (c .past .ensures) (g .network-at .ensures) ∙ at-end forms bs at prefixForm (prefixRoom (k .prefixes)) (false) (leb mostPrefixes (k .prefixes)) (λ v. prefixFaults k (getD v 0 0) (getD v 1 0)) (λ f. refuses f at) (λ _. took (after (s .args .self) prefixForm) (valuesAt prefixForm bs at)) refl (prefix-room k _) (clear (search needs)) (sym (e .enum-told2 .given .1) ∙ v .prefix-faults .ensures ∙ ap (λ (p : Network). finding (prefixFaults k (p .address) (p .bits))) (g .network-at .ensures))))
+    ap₂ (λ (c : Cursor) (p : Network). prefixSaid (Took c p)) (c .past .ensures) (g .network-at .ensures) ∙ at-end forms bs at (only prefixForm) (prefixRoom (k .prefixes)) (false) (leb mostPrefixes (k .prefixes)) (λ v. prefixFaults k (getD v 0 0) (getD v 1 0)) (λ f. refuses f at) (λ _. took (after (s .args .self) prefixForm) (valuesAt prefixForm bs at)) refl (prefix-room k _) (clear (search needs)) (sym (e .enum-told2 .given .1) ∙ v .prefix-faults .ensures ∙ ap (λ (p : Network). finding (prefixFaults k (p .address) (p .bits))) (g .network-at .ensures))))

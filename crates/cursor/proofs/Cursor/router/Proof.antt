@@ -13,7 +13,7 @@ use Rattle.cursor.specs.declared.Step.the-variants.{Took}
 use Rattle.cursor.specs.StepsLaws.{opened, at-opening, at-values, at-end, no-extra}
 use mathlib.Core.Path.{ap₂}
 use mathlib.Core.List.{[], _∷_}
-use Rattle.snapshot.specs.Records.{forms, routerForm, valuesAt}
+use Rattle.snapshot.specs.Records.{forms, only, routerForm, valuesAt}
 use Rattle.snapshot.specs.Format.{routerChecks}
 use Rattle.snapshot.specs.Reading.{routerValues, routerRecord}
 use Rattle.cursor.specs.Steps.{finding, bodyLength, openingChecks, after, idsAt, took, stepSaid}
@@ -49,7 +49,7 @@ router-spec =
     let o : tie.After-opening = search needs in
     let bs = now (s .args .input) in
     let at = s .args .self .at in
-    at-opening forms bs at routerForm ([]) (false) (false) (routerValues (s .args .routers) (idsAt bs (s .args .first) (s .args .given))) (λ f. refuses f at) (λ _. took (after (s .args .self) routerForm) (getD (valuesAt routerForm bs at) 1 0 ∷ [])) refl (no-extra _) (sym (c .before .f .given .1) ∙ o .opening .ensures))
+    at-opening forms bs at (only routerForm) ([]) (false) (false) (routerValues (s .args .routers) (idsAt bs (s .args .first) (s .args .given))) (λ f. refuses f at) (λ _. took (after (s .args .self) routerForm) (getD (valuesAt routerForm bs at) 1 0 ∷ [])) refl (no-extra _) (sym (c .before .f .given .1) ∙ o .opening .ensures))
     (λ c.
     let s : tie.Start = search needs in
     let o : tie.After-opening = search needs in
@@ -58,7 +58,7 @@ router-spec =
     let v : tie.After-router-faults = search needs in
     let g : tie.After-id-at = search needs in
     let h : tie.After-get8 = search needs in
-    at-values forms bs at routerForm ([]) (false) (false) (routerValues (s .args .routers) (idsAt bs (s .args .first) (s .args .given))) (λ f. refuses f at) (λ _. took (after (s .args .self) routerForm) (getD (valuesAt routerForm bs at) 1 0 ∷ [])) refl (no-extra _) (clear (search needs)) (sym (c .before .f2 .given .1) ∙ v .router-faults .ensures ∙ ap₂ (λ (i id : ℕ). finding (routerChecks (s .args .routers) (idsAt bs (s .args .first) (s .args .given)) i id)) (h .get8 .ensures) (g .id-at .ensures)))
+    at-values forms bs at (only routerForm) ([]) (false) (false) (routerValues (s .args .routers) (idsAt bs (s .args .first) (s .args .given))) (λ f. refuses f at) (λ _. took (after (s .args .self) routerForm) (getD (valuesAt routerForm bs at) 1 0 ∷ [])) refl (no-extra _) (clear (search needs)) (sym (c .before .f2 .given .1) ∙ v .router-faults .ensures ∙ ap₂ (λ (i id : ℕ). finding (routerChecks (s .args .routers) (idsAt bs (s .args .first) (s .args .given)) i id)) (h .get8 .ensures) (g .id-at .ensures)))
     (λ c.
     let s : tie.Start = search needs in
     let o : tie.After-opening = search needs in
@@ -68,4 +68,4 @@ router-spec =
     let g : tie.After-id-at = search needs in
     let h : tie.After-get8 = search needs in
     let e : tie.After-enum-told2 = search needs in
-    ap₂ (λ (c : Cursor) (n : ℕ). stepSaid (Took c n)) (c .past .ensures) (g .id-at .ensures) ∙ at-end forms bs at routerForm ([]) (false) (false) (routerValues (s .args .routers) (idsAt bs (s .args .first) (s .args .given))) (λ f. refuses f at) (λ _. took (after (s .args .self) routerForm) (getD (valuesAt routerForm bs at) 1 0 ∷ [])) refl (no-extra _) (clear (search needs)) (sym (e .enum-told2 .given .1) ∙ v .router-faults .ensures ∙ ap₂ (λ (i id : ℕ). finding (routerChecks (s .args .routers) (idsAt bs (s .args .first) (s .args .given)) i id)) (h .get8 .ensures) (g .id-at .ensures))))
+    ap₂ (λ (c : Cursor) (n : ℕ). stepSaid (Took c n)) (c .past .ensures) (g .id-at .ensures) ∙ at-end forms bs at (only routerForm) ([]) (false) (false) (routerValues (s .args .routers) (idsAt bs (s .args .first) (s .args .given))) (λ f. refuses f at) (λ _. took (after (s .args .self) routerForm) (getD (valuesAt routerForm bs at) 1 0 ∷ [])) refl (no-extra _) (clear (search needs)) (sym (e .enum-told2 .given .1) ∙ v .router-faults .ensures ∙ ap₂ (λ (i id : ℕ). finding (routerChecks (s .args .routers) (idsAt bs (s .args .first) (s .args .given)) i id)) (h .get8 .ensures) (g .id-at .ensures))))
