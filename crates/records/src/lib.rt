@@ -4,13 +4,14 @@ ghost use mathlib.Core.List.{[], _∷_};
 ghost use Prim.Native.Nat.{_+_, _≤_, _<_};
 ghost use lib.ListN.{length};
 ghost use lib.Seq.{sets};
+ghost use Rattle.model.specs.Rows.{column};
 ghost use Rattle.model.specs.Lent.{was, is, col};
-ghost use Rattle.snapshot.specs.Records.{countForm, routerForm, distanceForm, prefixForm, routeForm, endForm, written, spread, size};
+ghost use Rattle.snapshot.specs.Records.{countForm, routerForm, distanceForm, prefixForm, routeForms, endForm, written, writtenIn, size};
 ghost use Rattle.snapshot.specs.Format.{routeFields};
 ghost use Rattle.snapshot.specs.Limits.{mostRoutes};
 ghost use Rattle.snapshot.specs.Tables.{columns, Wide};
 ghost use Rattle.tables.specs.Judging.{routeAt};
-ghost use Rattle.records.specs.Putting.{frontForm, backWidths};
+ghost use Rattle.records.specs.Putting.{frontBytes, middleBytes, backBytes, Space, Puts};
 
 // The number of routers.
 pub fn put_count(out: &mut [u8], at: usize, n: u32)
@@ -53,49 +54,62 @@ pub fn put_prefix(out: &mut [u8], at: usize, address: u32, bits: u32)
     wire::put8(out, at + 5, bits);
 }
 
-// The first ten bytes of the route in a row: kind, router, neighbour AS, local preference, path length. Each field is read behind the
-// bytes before it: its bytes are then stored as one.
-fn put_route_front(
-    out: &mut [u8],
-    at: usize,
-    router: &[u32],
-    asn: &[u32],
-    preference: &[u32],
-    path: &[u32],
-    row: usize,
-)
-    requires { ⌜ (at + size routeForm ≤ length (now out)) × (row < length (now router)) × (row < length (now asn)) × (row < length (now preference)) × (row < length (now path)) ⌝ }
-    ensures { λ _. ⌜ is out ≡ sets (was out) at (written frontForm (col router row ∷ col asn row ∷ col preference row ∷ col path row ∷ [])) ⌝ }
+// The front of the route in a row: kind, router, neighbour AS, in the form that the AS chooses. Returns the place behind it. Each field is
+// read behind the bytes before it: its bytes are then stored as one.
+fn put_route_front(out: &mut [u8], at: usize, router: &[u32], asn: &[u32], row: usize) -> usize
+    requires { ⌜ (row < length (now router)) × (row < length (now asn)) × Space (frontBytes (column (now router) row) (column (now asn) row)) (now out) at ⌝ }
+    ensures { λ r. ⌜ Puts (frontBytes (col router row) (col asn row)) (was out) at (is out) r ⌝ }
 {
-    wire::put8(out, at, 5);
+    let four = snapshot::four_byte(asn[row]);
+    wire::put8(out, at, snapshot::route_kind(four) as u32);
     wire::put8(out, at + 1, router[row]);
+    if four {
+        wire::put32(out, at + 2, asn[row]);
+        return at + 6;
+    }
     wire::put16(out, at + 2, asn[row]);
-    wire::put32(out, at + 4, preference[row]);
-    wire::put16(out, at + 8, path[row]);
+    at + 4
 }
 
-// The other fourteen: origin, MED mark, MED, neighbour id, peer address.
+// Behind it, alike in both forms: local preference, path length, origin, MED mark. Returns the place behind them.
+fn put_route_middle(
+    out: &mut [u8],
+    at: usize,
+    preference: &[u32],
+    path: &[u32],
+    origin: &[u32],
+    mark: &[u32],
+    row: usize,
+) -> usize
+    requires { ⌜ (row < length (now preference)) × (row < length (now path)) × (row < length (now origin)) × (row < length (now mark)) × Space (middleBytes (column (now preference) row) (column (now path) row) (column (now origin) row) (column (now mark) row)) (now out) at ⌝ }
+    ensures { λ r. ⌜ Puts (middleBytes (col preference row) (col path row) (col origin row) (col mark row)) (was out) at (is out) r ⌝ }
+{
+    wire::put32(out, at, preference[row]);
+    wire::put16(out, at + 4, path[row]);
+    wire::put8(out, at + 6, origin[row]);
+    wire::put8(out, at + 7, mark[row]);
+    at + 8
+}
+
+// And the rest: MED, neighbour id, peer address. Returns the place behind them.
 fn put_route_back(
     out: &mut [u8],
     at: usize,
-    origin: &[u32],
-    mark: &[u32],
     med: &[u32],
     nid: &[u32],
     peer: &[u32],
     row: usize,
-)
-    requires { ⌜ (at + size routeForm ≤ length (now out)) × (row < length (now origin)) × (row < length (now mark)) × (row < length (now med)) × (row < length (now nid)) × (row < length (now peer)) ⌝ }
-    ensures { λ _. ⌜ is out ≡ sets (was out) (at + size frontForm) (spread backWidths (col origin row ∷ col mark row ∷ col med row ∷ col nid row ∷ col peer row ∷ [])) ⌝ }
+) -> usize
+    requires { ⌜ (row < length (now med)) × (row < length (now nid)) × (row < length (now peer)) × Space (backBytes (column (now med) row) (column (now nid) row) (column (now peer) row)) (now out) at ⌝ }
+    ensures { λ r. ⌜ Puts (backBytes (col med row) (col nid row) (col peer row)) (was out) at (is out) r ⌝ }
 {
-    wire::put8(out, at + 10, origin[row]);
-    wire::put8(out, at + 11, mark[row]);
-    wire::put32(out, at + 12, med[row]);
-    wire::put32(out, at + 16, nid[row]);
-    wire::put32(out, at + 20, peer[row]);
+    wire::put32(out, at, med[row]);
+    wire::put32(out, at + 4, nid[row]);
+    wire::put32(out, at + 8, peer[row]);
+    at + 12
 }
 
-// The route in a row. In two halves, since a proof about ten calls in a row is slow.
+// The route in a row. Returns the place behind it. In three parts, since a proof about ten calls in a row is slow.
 pub fn put_route(
     out: &mut [u8],
     at: usize,
@@ -109,12 +123,13 @@ pub fn put_route(
     nid: &[u32],
     peer: &[u32],
     row: usize,
-)
-    requires { ⌜ (at + size routeForm ≤ length (now out)) × (row < mostRoutes) × Wide mostRoutes (columns (now router) (now asn) (now preference) (now path) (now origin) (now mark) (now med) (now nid) (now peer)) ⌝ }
-    ensures { λ _. ⌜ is out ≡ sets (was out) at (written routeForm (routeFields (routeAt (columns (was router) (was asn) (was preference) (was path) (was origin) (was mark) (was med) (was nid) (was peer)) row))) ⌝ }
+) -> usize
+    requires { ⌜ (row < mostRoutes) × Wide mostRoutes (columns (now router) (now asn) (now preference) (now path) (now origin) (now mark) (now med) (now nid) (now peer)) × Space (writtenIn routeForms (routeFields (routeAt (columns (now router) (now asn) (now preference) (now path) (now origin) (now mark) (now med) (now nid) (now peer)) row))) (now out) at ⌝ }
+    ensures { λ r. ⌜ Puts (writtenIn routeForms (routeFields (routeAt (columns (was router) (was asn) (was preference) (was path) (was origin) (was mark) (was med) (was nid) (was peer)) row))) (was out) at (is out) r ⌝ }
 {
-    put_route_front(out, at, router, asn, preference, path, row);
-    put_route_back(out, at, origin, mark, med, nid, peer, row);
+    let middle = put_route_front(out, at, router, asn, row);
+    let back = put_route_middle(out, middle, preference, path, origin, mark, row);
+    put_route_back(out, back, med, nid, peer, row)
 }
 
 // The end, with the number of records before it.

@@ -3,19 +3,19 @@ use Prim.Native.Nat.{ℕ, zero, suc, _+_, _-_, _^_, _≤_, _<_, zero-le}
 use native.Mathlib.Omega.{arith}
 use mathlib.Core.Path.{_≡_, refl, sym, ap, _∙_, subst}
 use mathlib.Core.Bool.{Bool, true, false, not, _||_, true≢false, false≢true}
-use mathlib.Core.List.{List, []}
+use mathlib.Core.List.{List, [], _∷_}
 use lib.ListN.{length}
 use lib.Dec.{T, eqb, ltb}
 use borrow.Author.Count.{below-none, below-more}
 use borrow.Author.Tests.{eq-eqb, ne-eqb, eqb-true, eqb-false, le-ltb, ltb-false, leb-false, not-true, not-false}
 use Rattle.model.specs.Rows.{some, table, column, start}
 use Rattle.model.specs.Decision.{Route}
-use Rattle.model.specs.RowLaws.{table-length, start-first, start-next, start-within, or-false, test-true}
+use Rattle.model.specs.RowLaws.{table-length, start-first, start-next, start-within, by, or-false, test-true}
 use Rattle.snapshot.specs.declared.Counts.{Counts}
-use Rattle.snapshot.specs.Limits.{mostRouters, farthest, mostPrefixes, mostInPrefix, mostRoutes, lastAsn, longestPath, lastOrigin}
-use Rattle.snapshot.specs.Ranges.{none, anyOf, countTests, idTests, prefixTests, routeTests, rises, risesRoute}
+use Rattle.snapshot.specs.Limits.{mostRouters, farthest, mostPrefixes, mostInPrefix, mostRoutes, lastTwoByteAsn, lastAsn, longestPath, lastOrigin}
+use Rattle.snapshot.specs.Ranges.{none, anyOf, countTests, idTests, prefixTests, asnTests, routeTests, rises, risesRoute}
 use Rattle.snapshot.specs.RangesLaws.{none-any, none-at}
-use Rattle.snapshot.specs.Records.{routeForm, Fits}
+use Rattle.snapshot.specs.Records.{fourByte, routeFormBy, routeForms, Fits}
 use Rattle.snapshot.specs.Format.{GoodId, GoodRoute, Each, latest, routeFields}
 use Rattle.snapshot.specs.Tables.{Columns, Tables}
 use Rattle.snapshot.specs.ChecksLaws.{count-range}
@@ -151,15 +151,20 @@ pub record Words (r : Route) : Type 0 where
   pub nid : r .nid < 256 ^ 4
   pub peer : r .peer < 256 ^ 4
 
-route-fits : (n : ℕ) (r : Route) → n ≤ mostRouters → T (none (routeTests n r)) → Words r → Fits (routeForm .widths) (routeFields r)
+route-fits : (n : ℕ) (r : Route) → n ≤ mostRouters → T (none (routeTests n r)) → Words r → Fits (routeForms .chosen (routeFields r) .widths) (routeFields r)
 route-fits n r h t w =
     let each = none-at (routeTests n r) t in
     let router = leb-false n (r .router) (each 0) in
-    let asn = ltb-false lastAsn (r .asn) (each 2) in
-    let path = ltb-false longestPath (r .path) (each 4) in
-    let origin = ltb-false lastOrigin (r .origin) (each 5) in
-    let mark = ltb-false 1 (r .mark) (each 6) in
-    (omega arith, (omega arith, (w .preference, (omega arith, (omega arith, (omega arith, (w .med, (w .nid, (w .peer, tt)))))))))
+    let asn = ltb-false lastAsn (r .asn) (none-at (asnTests (r .asn)) (none-any (asnTests (r .asn)) (each 1)) 3) in
+    let path = ltb-false longestPath (r .path) (each 3) in
+    let origin = ltb-false lastOrigin (r .origin) (each 4) in
+    let mark = ltb-false 1 (r .mark) (each 5) in
+    let fits-by : (width : ℕ) → r .asn < 256 ^ width → Fits (1 ∷ width ∷ 4 ∷ 2 ∷ 1 ∷ 1 ∷ 4 ∷ 4 ∷ 4 ∷ []) (routeFields r) =
+    λ width l. (omega arith, (l, (w .preference, (omega arith, (omega arith, (omega arith, (w .med, (w .nid, (w .peer, tt))))))))) in
+    let in-form : (four : Bool) → Type 0 = λ four. Fits (routeFormBy four .widths) (routeFields r) in
+    by (fourByte (r .asn))
+    (λ e. subst in-form (sym e) (fits-by 4 (omega arith)))
+    (λ e. subst in-form (sym e) (fits-by 2 (omega (arith, ltb-false lastTwoByteAsn (r .asn) e))))
 
 module _ (n : ℕ) (c : Columns) (at k : ℕ) (r : Route) {bad late : Bool} (is : r ≡ routeAt c (at + k)) (e : bad ≡ anyOf (routeTests n r))
     (f : late ≡ lateAt (column (c .router)) (column (c .peer)) at (at + k)) where

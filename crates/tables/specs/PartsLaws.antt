@@ -45,7 +45,7 @@ cell-good from to d h t = none-cons (distanceTests d) (off (eqb from to) refl) t
 
 -- ---- the routes of all prefixes stand one after the other
 
-all-table : (t : Tables) (m : ℕ) → allRoutes (table m (prefixAt t)) ≡ table (start (t .routes) m) (routeAt (t .rows))
+pub all-table : (t : Tables) (m : ℕ) → allRoutes (table m (prefixAt t)) ≡ table (start (t .routes) m) (routeAt (t .rows))
 unfolding start
 all-table t zero = refl
 all-table t (suc m) =

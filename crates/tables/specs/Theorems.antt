@@ -4,7 +4,7 @@ use Prim.Native.Nat.{ℕ, suc, _+_, _≤_, _<_}
 use native.Mathlib.Omega.{arith}
 use mathlib.Core.Path.{_≡_, refl, sym, ap, _∙_, subst, fun-ext}
 use mathlib.Core.Logic.{_⊎_, inl, inr, ⊎-elim}
-use mathlib.Core.Bool.{false, _&&_}
+use mathlib.Core.Bool.{_&&_}
 use mathlib.Core.List.{List, [], map, map-map}
 use lib.ListN.{length, getD, take, drop}
 use lib.Dec.{T, eqb, ltb}
@@ -167,7 +167,7 @@ module _ {s : Snapshot} (valid : Valid s) where
     pub absent-zero : (q : ℕ) → q < length rs → column (map (λ r. r .mark) rs) q ≡ 0 → column (map (λ r. r .med) rs) q ≡ 0
     absent-zero q l e =
         field (λ r. r .med) q l
-        ∙ and-zero (eqb (at q .mark) 0) (at q .med) (none-at (routeTests (length (s .ids)) (at q)) (route-good q l .obeys .0) 7)
+        ∙ and-zero (eqb (at q .mark) 0) (at q .med) (none-at (routeTests (length (s .ids)) (at q)) (route-good q l .obeys .0) 6)
         (eq-eqb (at q .mark) 0 (sym (field (λ r. r .mark) q l) ∙ e))
 
     rising : Rising (mesh s p)

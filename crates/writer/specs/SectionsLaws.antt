@@ -10,7 +10,7 @@ use lib.ListN.{length}
 use lib.Seq.{sets, length-sets}
 use Rattle.model.specs.Rows.{table, column, start}
 use Rattle.model.specs.LoopLaws.{rest, rest-next, rest-end}
-use Rattle.snapshot.specs.Records.{routerForm, distanceForm, prefixForm, routeForm, written}
+use Rattle.snapshot.specs.Records.{routerForm, distanceForm, prefixForm, routeForms, written, writtenIn}
 use Rattle.snapshot.specs.Format.{Pair, row, rows, routersBytes, routesBytes, prefixesBytes, routeFields}
 use Rattle.snapshot.specs.Tables.{Columns, Tables}
 use Rattle.snapshot.specs.PairsLaws.{due-row, due-equal, due-other, due-row-end, due-end}
@@ -121,7 +121,7 @@ module _ (c : Columns) (at n : ℕ) where
   pub routes-first : routesFrom c at n 0 ≡ routesBytes (routesAt c at n)
   routes-first = rw sub-zero
 
-  pub routes-next : (k : ℕ) → k < n → Step (routesFrom c at n) k (written routeForm (routeFields (routeAt c (at + k))))
+  pub routes-next : (k : ℕ) → k < n → Step (routesFrom c at n) k (writtenIn routeForms (routeFields (routeAt c (at + k))))
   routes-next k l = record {
     first = ap (λ (l : List ℕ). routesBytes (map (λ j. routeAt c (at + j)) l)) (rest-next k n l);
   }

@@ -1,5 +1,6 @@
 -- Writing tables back as a snapshot's bytes: what is answered, and what stands in the output afterwards.
 use Prim.Native.Nat.{ℕ, _+_, _-_, _*_, _≤_, _<_}
+use mathlib.Core.Bool.{Bool}
 use mathlib.Core.List.{List, [], _∷_, _++_, map}
 use lib.ListN.{length}
 use lib.Dec.{T}
@@ -9,7 +10,7 @@ use Rattle.refusal.specs.Numbers.{Said, refuses, gives}
 use Rattle.model.specs.Rows.{table, column}
 use Rattle.snapshot.specs.declared.Counts.{Counts}
 use Rattle.snapshot.specs.Ranges.{anyOf, none}
-use Rattle.snapshot.specs.Records.{countForm, routerForm, distanceForm, prefixForm, routeForm, endForm, written, size}
+use Rattle.snapshot.specs.Records.{countForm, routerForm, distanceForm, prefixForm, endForm, fourByte, routeFormBy, sum, written, size}
 use Rattle.snapshot.specs.Format.{Prefix, Snapshot, Pair, row, pairs, routersBytes, distancesBytes, routesBytes, encode, Valid}
 use Rattle.snapshot.specs.Tables.{Tables, short, Held}
 use Rattle.tables.specs.Judging.{routesAt, cell, Holding}
@@ -65,20 +66,28 @@ prefixFrom t p row = record { address = column (t .address) p; bits = column (t 
 abbrev pub prefixBytes : Prefix → List ℕ
 prefixBytes p = written prefixForm (p .address ∷ p .bits ∷ []) ++ routesBytes (p .routes)
 
--- ---- what is known from the counts
+-- ---- what is known from the counts and the ASes
 
 -- the pairs of n routers
 abbrev pub pairCount : ℕ → ℕ
 pairCount n = n * (n - 1)
 
+-- the bytes of a route's record, by whether its AS is past those of two bytes
+abbrev pub sizeBy : Bool → ℕ
+sizeBy four = size (routeFormBy four)
+
+-- the bytes of the records of the first n routes, by their ASes
+abbrev pub routesOf : List ℕ → ℕ → ℕ
+routesOf asn n = sum (table n (λ k. sizeBy (fourByte (column asn k))))
+
 -- the bytes of the snapshot, and its records before the end record
-abbrev pub sizeOf : Counts → ℕ
-sizeOf c =
+abbrev pub sizeOf : Counts → List ℕ → ℕ
+sizeOf c asn =
     size countForm
     + size routerForm * c .routers
     + size distanceForm * pairCount (c .routers)
     + size prefixForm * c .prefixes
-    + size routeForm * c .routes
+    + routesOf asn (c .routes)
     + size endForm
 
 abbrev pub recordsOf : Counts → ℕ

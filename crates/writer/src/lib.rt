@@ -5,13 +5,14 @@ ghost use lib.ListN.{length};
 ghost use Rattle.model.specs.Rows.{table, column, start};
 ghost use Rattle.model.specs.Lent.{was, is, col};
 ghost use Rattle.snapshot.specs.Limits.{mostRouters, roomDistances, mostPrefixes, mostRoutes};
+ghost use Rattle.snapshot.specs.Records.{fourByteRouteForm, size};
 ghost use Rattle.snapshot.specs.Format.{routersBytes, prefixesBytes, routesBytes};
 ghost use Rattle.snapshot.specs.Tables.{columns, tables, short, prefixTables, RoomPrefixes, Wide};
 ghost use Rattle.snapshot.specs.Ranges.{none};
 ghost use lib.Dec.{T};
 ghost use Rattle.tables.specs.Judging.{routesAt, prefixAt, InRange, Holding};
 ghost use Rattle.records.specs.Putting.{Space, Puts};
-ghost use Rattle.writer.specs.Writing.{rowBytes, rowsBytes, networkBytes, prefixFrom, prefixBytes, pairCount, sizeOf, recordsOf, said, Writes};
+ghost use Rattle.writer.specs.Writing.{rowBytes, rowsBytes, networkBytes, prefixFrom, prefixBytes, pairCount, routesOf, sizeOf, recordsOf, said, Writes};
 use refusal::Refusal;
 use snapshot::Counts;
 use tables::Verdict;
@@ -110,7 +111,7 @@ fn put_routes(
     let mut at = first;
     let mut k = 0;
     while k < count {
-        records::put_route(
+        at = records::put_route(
             out,
             at,
             router,
@@ -124,7 +125,6 @@ fn put_routes(
             peer,
             row + k,
         );
-        at += snapshot::ROUTE_SIZE;
         k += 1;
     }
     at
@@ -232,17 +232,32 @@ fn pair_count(n: u32) -> u32
     n * (n - 1)
 }
 
-// The bytes of the snapshot with these counts.
-fn size(counts: Counts) -> usize
-    requires { ⌜ InRange counts ⌝ }
-    ensures { λ r. ⌜ r ≡ sizeOf counts ⌝ }
+// The bytes of the records of n routes, by their ASes.
+fn routes_size(n: usize, asn: &[u32]) -> usize
+    requires { ⌜ (n ≤ mostRoutes) × (n ≤ length (now asn)) ⌝ }
+    ensures { λ r. ⌜ (r ≡ routesOf (was asn) n) × (r ≤ size fourByteRouteForm * mostRoutes) ⌝ }
+{
+    let mut total = 0;
+    let mut k = 0;
+    while k < n {
+        total += snapshot::route_size(snapshot::four_byte(asn[k]));
+        k += 1;
+    }
+    total
+}
+
+// The bytes of the snapshot with these counts and ASes.
+fn size(counts: Counts, asn: &[u32]) -> usize
+    requires { ⌜ InRange counts × (mostRoutes ≤ length (now asn)) ⌝ }
+    ensures { λ r. ⌜ r ≡ sizeOf counts (was asn) ⌝ }
 {
     let pairs = pair_count(counts.routers);
+    let routes = routes_size(counts.routes as usize, asn);
     snapshot::COUNT_SIZE
         + snapshot::ROUTER_SIZE * (counts.routers as usize)
         + snapshot::DISTANCE_SIZE * (pairs as usize)
         + snapshot::PREFIX_SIZE * (counts.prefixes as usize)
-        + snapshot::ROUTE_SIZE * (counts.routes as usize)
+        + routes
         + snapshot::END_SIZE
 }
 
@@ -277,7 +292,7 @@ fn write_held(
     requires { ⌜ T (none (short (tables (now ids) (now distances) (now address) (now bits) (now routes) (columns (now router) (now asn) (now preference) (now path) (now origin) (now mark) (now med) (now nid) (now peer))))) × Holding counts (tables (now ids) (now distances) (now address) (now bits) (now routes) (columns (now router) (now asn) (now preference) (now path) (now origin) (now mark) (now med) (now nid) (now peer))) ⌝ }
     ensures { λ r. ⌜ Writes counts (tables (was ids) (was distances) (was address) (was bits) (was routes) (columns (was router) (was asn) (was preference) (was path) (was origin) (was mark) (was med) (was nid) (was peer))) (was out) (said r) (is out) ⌝ }
 {
-    let n = size(counts);
+    let n = size(counts, asn);
     if out.len() < n {
         return Write::Refused(Refusal::Room, 0);
     }

@@ -54,8 +54,9 @@ routes-good-spec =
     let start : tie.Start Inv-loop μ-loop = search needs in
     let turn : tie.In-loop Inv-loop μ-loop = search needs in
     let tested : tie.After-route-bad Inv-loop μ-loop = search needs in
+    let compared : tie.After-late-at Inv-loop μ-loop = search needs in
     sofar-not (turn .loop-test .taken)
-    (route-bad (start .args .routers) (lent start) (start .args .at) (turn .before .loop .k) _ (tested .before .route-at .ensures) (tested .route-bad .ensures) (c .before .late-at .ensures)
+    (route-bad (start .args .routers) (lent start) (start .args .at) (turn .before .loop .k) _ (tested .before .route-at .ensures) (tested .route-bad .ensures) (compared .late-at .ensures)
     (c .if1 .taken)))
     (λ c. search needs)
     (λ c. search needs)
@@ -64,7 +65,8 @@ routes-good-spec =
     let known : tie.After-shared-slice-known9 Inv-loop μ-loop = search needs in
     let turn : tie.In-loop Inv-loop μ-loop = search needs in
     let tested : tie.After-route-bad Inv-loop μ-loop = search needs in
+    let compared : tie.After-late-at Inv-loop μ-loop = search needs in
     sofar-next (turn .before .loop .inv) (turn .loop-test .taken)
-    (route-good (start .args .routers) (lent start) (start .args .at) (turn .before .loop .k) _ (tested .before .route-at .ensures) (tested .route-bad .ensures) (c .before .late-at .ensures)
+    (route-good (start .args .routers) (lent start) (start .args .at) (turn .before .loop .k) _ (tested .before .route-at .ensures) (tested .route-bad .ensures) (compared .late-at .ensures)
     (omega arith) (words known (start .args .at + turn .before .loop .k)) (c .if1 .left)))
     (λ c. sofar-end (c .before .loop .inv) (c .loop-test .left)))

@@ -1,7 +1,6 @@
 -- `put_routes` meets its contract: the records of the routes from the k-th on are left. Assumes nothing.
 use Prim.Native.Nat.{_-_}
 use native.Mathlib.Omega.{arith}
-use mathlib.Core.Path.{refl}
 use denote.Ref.{now}
 use borrow.Author.Needs.{needs}
 use Rattle.snapshot.specs.Format.{routesBytes}
@@ -35,19 +34,13 @@ put-routes-spec =
     (λ c κs.
     let start : tie.Start Inv-loop μ-loop = search needs in
     let turn : tie.In-loop Inv-loop μ-loop = search needs in
-    (section-room (turn .before .loop .inv) (turn .loop-test .taken) (routes-next (lent start) (start .args .row) (start .args .count) (turn .before .loop .k) (turn .loop-test .taken)) .fits, omega arith, start .pre .1))
-    (λ c.
-    let start : tie.Start Inv-loop μ-loop = search needs in
-    let turn : tie.In-loop Inv-loop μ-loop = search needs in
-    let put : tie.After-put-route Inv-loop μ-loop = search needs in
-    omega (arith, section-room (turn .before .loop .inv) (turn .loop-test .taken) (routes-next (lent start) (start .args .row) (start .args .count) (turn .before .loop .k) (turn .loop-test .taken)), section-long (turn .before .loop .inv), start))
+    (omega arith, start .pre .1, section-room (turn .before .loop .inv) (turn .loop-test .taken) (routes-next (lent start) (start .args .row) (start .args .count) (turn .before .loop .k) (turn .loop-test .taken))))
     (λ c. search needs)
     (λ c. search needs)
     (λ c.
     let start : tie.Start Inv-loop μ-loop = search needs in
     let turn : tie.In-loop Inv-loop μ-loop = search needs in
     let put : tie.After-put-route Inv-loop μ-loop = search needs in
-    section-next (turn .before .loop .inv) (turn .loop-test .taken) (routes-next (lent start) (start .args .row) (start .args .count) (turn .before .loop .k) (turn .loop-test .taken))
-    (put .put-route .ensures) refl)
+    section-next (turn .before .loop .inv) (turn .loop-test .taken) (routes-next (lent start) (start .args .row) (start .args .count) (turn .before .loop .k) (turn .loop-test .taken)) (put .put-route .ensures .same) (put .put-route .ensures .place))
     (λ c. section-long (c .before .loop .inv))
     (λ c. let start : tie.Start Inv-loop μ-loop = search needs in section-end (c .before .loop .inv) (c .loop-test .left) (routes-last (lent start) (start .args .row) (start .args .count))))

@@ -8,9 +8,9 @@ pub size-spec : {M : Type 1} → statement M
 size-spec =
     tie.close
     (tie.spec
-    (λ c κs. let start : tie.Start = search needs in routers-range (start .pre))
+    (λ c κs. let start : tie.Start = search needs in routers-range (start .pre .0))
     (λ c. search needs)
-    (λ c. search needs)
+    (λ c κs. search needs)
     (λ c. search needs)
     (λ c. search needs)
     (λ c. search needs)

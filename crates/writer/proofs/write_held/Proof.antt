@@ -66,7 +66,7 @@ pub write-held-spec : {M : Type 1} → statement M
 write-held-spec =
     tie.close
     (tie.spec
-    (λ c κs. let start : tie.Start = search needs in parts start .range)
+    (λ c κs. let start : tie.Start = search needs in (parts start .range, room start .prefixes .rows .asn))
     (λ c. let start : tie.Start = search needs in
     writes-full (start .args .counts) (lent start) (now (start .args .out)) (start .pre .0) (start .pre .1) (omega (arith, c .if1 .taken, c .before .size .ensures)))
     (λ c κs. parts (start-of c) .range)
