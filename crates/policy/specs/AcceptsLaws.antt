@@ -8,7 +8,7 @@ use lib.ListN.{length, drop}
 use lib.Dec.{T, eqb, ltb, ltb→lt, eqb→eq}
 use lib.Pow.{areBytes}
 use Rattle.wire.specs.NumbersLaws.{bytes-drop}
-use Rattle.snapshot.specs.Records.{Form, endForm, written, Fits, kind, values, size}
+use Rattle.snapshot.specs.Records.{Form, endForm, only, written, Fits, kind, values, size}
 use Rattle.snapshot.specs.RecordsLaws.{split-written, fits-values}
 use Rattle.snapshot.specs.Format.{Holds, latest, Each}
 use Rattle.snapshot.specs.Reading.{endRecord, accepted, tail, endValues}
@@ -46,9 +46,9 @@ length-on f (s ∷ u ∷ ss) = ap suc (length-on f (u ∷ ss))
 
 -- an entry's record goes over to what was read, and leaves it valid
 record Sound (i : Entry) : Type 0 where
-  bytes : (policy : Policy) (bs : List ℕ) → Passed (i .form) (i .room policy) (i .checks policy) bs
+  bytes : (policy : Policy) (bs : List ℕ) → Passed (only (i .form)) (i .room policy) (i .checks policy) bs
       → sessionsBytes (i .after policy (values (i .form) bs)) ≡ sessionsBytes policy ++ written (i .form) (values (i .form) bs)
-  valid : (policy : Policy) (bs : List ℕ) → T (areBytes bs) → Passed (i .form) (i .room policy) (i .checks policy) bs → Valid policy
+  valid : (policy : Policy) (bs : List ℕ) → T (areBytes bs) → Passed (only (i .form)) (i .room policy) (i .checks policy) bs → Valid policy
       → Valid (i .after policy (values (i .form) bs))
 
 sessions-snoc : (policy : Policy) (s : Session) → sessionsBytes (policy ++ (s ∷ [])) ≡ sessionsBytes policy ++ sessionBytes s
@@ -157,7 +157,7 @@ module _ (W : List ℕ) (policy : Policy) (bs : List ℕ) (c : SoFar W policy bs
   entry-read : (i : Entry) → Sound i → Holds (entryRecord i policy bs) → SoFar W (i .after policy (values (i .form) bs)) (drop (size (i .form)) bs)
   unfolding entryRecord
   entry-read i s e =
-      let p = passed policyForms (i .form) (i .room policy) (i .checks policy) bs e in
+      let p = passed policyForms (only (i .form)) (i .room policy) (i .checks policy) bs e in
       record {
         bytes = bytes-drop (size (i .form)) bs (c .bytes);
         written-is = c .written-is
@@ -171,8 +171,8 @@ module _ (W : List ℕ) (policy : Policy) (bs : List ℕ) (c : SoFar W policy bs
   unfolding endRecord
   at-end t at e r = go (drop 5 bs) refl r
     where
-      h : Passed endForm [] (endValues (recordsIn policy)) bs
-      h = passed policyForms endForm [] (endValues (recordsIn policy)) bs e
+      h : Passed (only endForm) [] (endValues (recordsIn policy)) bs
+      h = passed policyForms (only endForm) [] (endValues (recordsIn policy)) bs e
 
       go : (rest : List ℕ) → drop 5 bs ≡ rest → tail policy at rest ≡ accepted t → (W ≡ encode t) × Valid t
       go [] d r =

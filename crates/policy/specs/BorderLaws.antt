@@ -8,7 +8,7 @@ use mathlib.Core.List.{List, [], _∷_, _++_}
 use lib.ListN.{length, getD, take, drop}
 use lib.Seq.{take-nil}
 use lib.Dec.{T, eqb, ltb, ltb→lt, lit≤}
-use Rattle.snapshot.specs.Records.{Form, endForm, sum, size, kind, values}
+use Rattle.snapshot.specs.Records.{Form, endForm, only, sum, size, kind, values}
 use Rattle.snapshot.specs.Format.{Holds, latest}
 use Rattle.snapshot.specs.Reading.{endRecord, tail, endValues}
 use Rattle.snapshot.specs.ChecksLaws.{length-snoc}
@@ -99,11 +99,11 @@ records-take (suc count) policy at (b ∷ bs) m l enough =
     ∙ among-both Paid entries (kind all) (kind (take m all)) _ _ _ _ entries-paid (kind-take m all (omega arith))
     (λ i paid.
     let f : Form = i .form in
-    record-take m all policyForms f (i .room policy) (i .checks policy) at (λ v. recordsFrom (i .after policy v) (at + size f)) (omega arith)
+    record-take m all policyForms (only f) (i .room policy) (i .checks policy) at (λ v n. recordsFrom (i .after policy v) (at + n)) (omega arith)
     (λ h. omega (arith, paid policy [] h))
     (λ z. records-take count (i .after policy (values f all)) (at + size f) (drop (size f) all) (m - size f)
     (drop-shorter (sum (f .widths)) bs count l) (omega (arith, paid policy (values f all) (z .free)))))
-    (record-take m all policyForms endForm [] (endValues (recordsIn policy)) at (λ _. tail policy (at + 5)) (omega arith) (λ _. omega arith)
+    (record-take m all policyForms (only endForm) [] (endValues (recordsIn policy)) at (λ _ n. tail policy (at + n)) (omega arith) (λ _. omega arith)
     (λ _. tail-take policy (at + 5) (m - 5) (drop 5 all) (omega arith)))
     ∙ sym (records-step policy at (take m all))
 

@@ -5,6 +5,7 @@ use mathlib.Core.List.{List, [], _∷_, _++_}
 use lib.ListN.{length}
 use lib.Dec.{eqb, ltb}
 use Rattle.refusal.specs.declared.Refusal.the-variants.{Field, Order}
+use Rattle.snapshot.specs.Limits.{lastAsn}
 use Rattle.snapshot.specs.Ranges.{none, prefixTests, rises}
 use Rattle.snapshot.specs.Records.{Form, endForm, written, Fits}
 use Rattle.snapshot.specs.Format.{Check, _else_, Holds, latest, Each}
@@ -24,10 +25,6 @@ longestSession = 327
 -- the bytes of the longest policy
 abbrev pub longest : ℕ
 longest = 20933
-
--- the highest AS of four bytes
-abbrev pub lastWideAsn : ℕ
-lastWideAsn = 4294967294
 
 -- ---- the table of kinds
 
@@ -89,14 +86,14 @@ clauseFields (exact address bits preference) = address ∷ bits ∷ preference �
 clauseFields (direct asn preference) = asn ∷ preference ∷ []
 clauseFields (any preference) = preference ∷ []
 
--- what puts an AS outside its range, 1 to 4,294,967,294
-abbrev pub asnTests : ℕ → List Bool
-asnTests asn = eqb asn 0 ∷ ltb lastWideAsn asn ∷ []
+-- what puts the AS of a clause outside its range, 1 to 4,294,967,294, which is wider than what a route may have
+abbrev pub clauseAsnTests : ℕ → List Bool
+clauseAsnTests asn = eqb asn 0 ∷ ltb lastAsn asn ∷ []
 
 -- what puts a clause outside its ranges: the prefix's as in a snapshot; a preference may be any
 abbrev pub clauseTests : Clause → List Bool
 clauseTests (exact address bits preference) = prefixTests address bits
-clauseTests (direct asn preference) = asnTests asn
+clauseTests (direct asn preference) = clauseAsnTests asn
 clauseTests (any preference) = []
 
 -- a clause in its ranges

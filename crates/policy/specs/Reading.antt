@@ -6,7 +6,7 @@ use mathlib.Core.List.{List, [], _∷_, _++_}
 use lib.ListN.{length, getD, drop}
 use lib.Dec.{eqb, ltb}
 use Rattle.refusal.specs.declared.Refusal.the-variants.{Cut, Place, Full}
-use Rattle.snapshot.specs.Records.{Form, endForm, size, kind, values}
+use Rattle.snapshot.specs.Records.{Form, endForm, only, size, kind, values}
 use Rattle.snapshot.specs.Format.{Check, _else_, latest}
 use Rattle.snapshot.specs.Reading.{endRecord, AnswerOf, refused, recordChecks, unless, either, tail}
 use Rattle.policy.specs.Policy.{Clause, exact, direct, any, Session, Policy, mostSessions, mostClauses, policyForms, sessionForm, exactForm, directForm, anyForm, zeroForm, clauseChecks, sessionChecks, recordsIn}
@@ -88,7 +88,7 @@ among (i ∷ is) k its otherwise = either (eqb k (i .form .kind)) (λ _. its i) 
 
 -- the checks of an entry's record, in 01's order
 unfoldable pub entryRecord : Entry → Policy → List ℕ → List Check
-entryRecord i policy = recordChecks policyForms (i .form) (i .room policy) (i .checks policy)
+entryRecord i policy = recordChecks policyForms (only (i .form)) (i .room policy) (i .checks policy)
 
 -- there are no more records than bytes: the count ends the recursion, and `records-step` of ReturnsLaws.antt is the equation to go by
 unfoldable pub recordsWithin : ℕ → Policy → ℕ → List ℕ → AnswerOf Policy

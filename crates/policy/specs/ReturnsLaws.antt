@@ -6,14 +6,12 @@ use mathlib.Core.Path.{_≡_, refl, sym, ap, ap₂, _∙_, fun-ext}
 use mathlib.Core.Bool.{Bool, true, false, cond}
 use mathlib.Core.List.{List, [], _∷_, _++_, append-assoc, append-nil}
 use lib.ListN.{length, drop, length-drop}
-use lib.Seq.{drop-at}
 use lib.Dec.{T, ltb, lt→ltb, eqb-refl}
-use Rattle.snapshot.specs.Records.{Form, endForm, written, spread, Fits, known, kind, values, size}
-use Rattle.snapshot.specs.RecordsLaws.{values-written, length-spread}
+use Rattle.snapshot.specs.Records.{Form, endForm, only, written, Fits, known, kind, values, size}
+use Rattle.snapshot.specs.RecordsLaws.{values-written, drop-written, only-chosen}
 use Rattle.snapshot.specs.Format.{Holds, Each}
 use Rattle.snapshot.specs.Reading.{endRecord, AnswerOf, accepted, unless, either, tail, endValues}
-use Rattle.snapshot.specs.ChecksLaws.{judged-passed, latest-snoc, snoc-some, length-snoc}
-use Rattle.snapshot.specs.ReturnsLaws.{record-passes}
+use Rattle.snapshot.specs.ChecksLaws.{judged-passed, record-passes, latest-snoc, snoc-some, length-snoc}
 use Rattle.policy.specs.Policy.{Clause, exact, direct, any, Session, Policy, mostSessions, mostClauses, policyForms, sessionForm, exactForm, directForm, anyForm, clauseForm, clauseFields, clauseChecks, clausesBytes, zeroBytes, sessionsBytes, recordsIn, encode, GoodClause, GoodSession, Valid}
 use Rattle.policy.specs.Reading.{onLatest, withClause, withZero, bare, Entry, sessionEntry, clauseEntry, zeroEntry, exactClause, directClause, anyClause, entries, among, entryRecord, recordsWithin, recordsFrom, reading}
 
@@ -53,9 +51,6 @@ records-step policy at (b ∷ bs) =
 abbrev Listed : Entry → Type 1
 Listed i = (A : Type 0) (its : Entry → A) (otherwise : Unit {0} → A) → among entries (i .form .kind) its otherwise ≡ its i
 
-drop-written : (f : Form) (vs rest : List ℕ) → Fits (f .widths) vs → drop (size f) (written f vs ++ rest) ≡ rest
-drop-written f vs rest fit = drop-at (spread (f .widths) vs) rest _ (length-spread (f .widths) vs fit)
-
 entry-back : (i : Entry) → Listed i → T (known policyForms (i .form .kind)) → (policy : Policy) (at : ℕ) (vs rest : List ℕ)
     → Fits (i .form .widths) vs → Holds (i .room policy) → Holds (i .checks policy vs)
     → recordsFrom policy at (written (i .form) vs ++ rest) ≡ recordsFrom (i .after policy vs) (at + size (i .form)) rest
@@ -65,7 +60,7 @@ entry-back i listed some policy at vs rest fit room good =
     let bs : List ℕ = written f vs ++ rest in
     records-step policy at bs
     ∙ listed (AnswerOf Policy) _ _
-    ∙ judged-passed (entryRecord i policy bs) _ _ (record-passes policyForms f (i .room policy) (i .checks policy) vs rest some fit room good)
+    ∙ judged-passed (entryRecord i policy bs) _ _ (record-passes policyForms (only f) (only-chosen policyForms f some) vs rest fit (i .room policy) (i .checks policy) room good)
     ∙ ap₂ (λ (v l : List ℕ). recordsFrom (i .after policy v) (at + size f) l) (values-written f vs rest fit) (drop-written f vs rest fit)
 
 -- ---- the latest session
@@ -134,7 +129,7 @@ module _ (all : Policy) (small : recordsIn all < 256 ^ 4) where
       let bs : List ℕ = written endForm (recordsIn all ∷ []) in
       records-step done at bs
       ∙ judged-passed (endRecord policyForms (recordsIn done) bs) _ _
-      (record-passes policyForms endForm [] (endValues (recordsIn done)) (recordsIn all ∷ []) [] tt (small, tt) tt (rw same (eqb-refl (recordsIn all)), tt))
+      (record-passes policyForms (only endForm) (only-chosen policyForms endForm tt) (recordsIn all ∷ []) [] (small, tt) [] (endValues (recordsIn done)) tt (rw same (eqb-refl (recordsIn all)), tt))
       ∙ ap accepted same
   sessions-back done (s ∷ ss) at is few good =
       let vs : List ℕ = s .router ∷ s .peer ∷ [] in

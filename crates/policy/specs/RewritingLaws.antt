@@ -10,12 +10,13 @@ use lib.Seq.{sets}
 use Rattle.model.specs.Decision.{Route}
 use Rattle.model.specs.RowLaws.{by}
 use Rattle.snapshot.specs.declared.Counts.{Counts}
-use Rattle.snapshot.specs.Limits.{lastAsn, longestPath, lastOrigin}
-use Rattle.snapshot.specs.Ranges.{none, routeTests, rises, risesRoute}
+use Rattle.snapshot.specs.Limits.{longestPath, lastOrigin}
+use Rattle.snapshot.specs.Ranges.{none, anyOf, asnTests, routeTests, rises, risesRoute}
 use Rattle.snapshot.specs.RangesLaws.{none-swap}
-use Rattle.snapshot.specs.Records.{routeForm, Fits}
+use Rattle.snapshot.specs.Records.{fourByte, routeFormBy, sum, Fits}
+use Rattle.snapshot.specs.RecordsLaws.{of-routes}
 use Rattle.snapshot.specs.Format.{Prefix, Snapshot, Each, latest, GoodRoute, GoodPrefix, Valid, routesIn, routeFields, encode}
-use Rattle.snapshot.specs.WrittenLaws.{encode-size}
+use Rattle.snapshot.specs.WrittenLaws.{routeSize, encode-size}
 use Rattle.snapshot.specs.Tables.{Columns, Tables, Room, putRoutes, filled, Held, countsOf, allRoutes}
 use Rattle.tables.specs.PartsLaws.{tables-are, columns-are}
 use Rattle.tables.specs.FilledLaws.{filled-held}
@@ -89,13 +90,18 @@ ruled-is before (s ∷ ss) address bits r g =
 zeroed-ranges : (n : ℕ) (r : Route) (preference : ℕ) → T (none (routeTests n r)) → T (none (routeTests n (with r preference 1 0)))
 zeroed-ranges n r preference t =
     none-swap
-    (leb n (r .router) ∷ eqb (r .asn) 0 ∷ ltb lastAsn (r .asn) ∷ eqb (r .path) 0 ∷ ltb longestPath (r .path) ∷ ltb lastOrigin (r .origin) ∷ [])
+    (leb n (r .router) ∷ anyOf (asnTests (r .asn)) ∷ eqb (r .path) 0 ∷ ltb longestPath (r .path) ∷ ltb lastOrigin (r .origin) ∷ [])
     (ltb 1 (r .mark) ∷ (eqb (r .mark) 0 && not (eqb (r .med) 0)) ∷ []) (false ∷ false ∷ []) (eqb (r .nid) 0 ∷ eqb (r .peer) 0 ∷ []) tt t
 
-ruled-fits : (r r′ : Route) → Ruled r r′ → Fits (routeForm .widths) (routeFields r) → Fits (routeForm .widths) (routeFields r′)
-ruled-fits r _ (kept preference small) h = (h .0, (h .1 .0, (small, h .1 .1 .1)))
-ruled-fits r _ (zeroed preference small) h =
+-- the AS has two bytes or four
+fits-by : (w : ℕ) (r r′ : Route) → Ruled r r′
+    → Fits (1 ∷ w ∷ 4 ∷ 2 ∷ 1 ∷ 1 ∷ 4 ∷ 4 ∷ 4 ∷ []) (routeFields r) → Fits (1 ∷ w ∷ 4 ∷ 2 ∷ 1 ∷ 1 ∷ 4 ∷ 4 ∷ 4 ∷ []) (routeFields r′)
+fits-by w r _ (kept preference small) h = (h .0, (h .1 .0, (small, h .1 .1 .1)))
+fits-by w r _ (zeroed preference small) h =
     (h .0, (h .1 .0, (small, (h .1 .1 .1 .0, (h .1 .1 .1 .1 .0, (omega arith, (omega arith, h .1 .1 .1 .1 .1 .1 .1)))))))
+
+ruled-fits : (r r′ : Route) → Ruled r r′ → (four : Bool) → Fits (routeFormBy four .widths) (routeFields r) → Fits (routeFormBy four .widths) (routeFields r′)
+ruled-fits r r′ h = of-routes (λ f. Fits (f .widths) (routeFields r) → Fits (f .widths) (routeFields r′)) (fits-by 2 r r′ h) (fits-by 4 r r′ h)
 
 ruled-ranges : (n : ℕ) (r r′ : Route) → Ruled r r′ → T (none (routeTests n r)) → T (none (routeTests n r′))
 ruled-ranges n r _ (kept preference small) t = t
@@ -130,7 +136,8 @@ module _ (policy : Policy) (good : Each GoodSession [] policy) (n : ℕ) where
       λ q. ap₂ (λ (a b : ℕ). rises a b (g r .router) (g r .peer)) (ruled-keeps (λ r. r .router) (λ r p m d. refl) policy address bits q) (ruled-keeps (λ r. r .peer) (λ r p m d. refl) policy address bits q)
       ∙ ap₂ (rises (q .router) (q .peer)) (ruled-keeps (λ r. r .router) (λ r p m d. refl) policy address bits r) (ruled-keeps (λ r. r .peer) (λ r p m d. refl) policy address bits r) in
       record {
-        fits = ruled-fits r (g r) is (h .fits);
+        fits = subst (λ (asn : ℕ). Fits (routeFormBy (fourByte asn) .widths) (routeFields (g r))) (sym (ruled-keeps (λ r. r .asn) (λ r p m d. refl) policy address bits r))
+            (ruled-fits r (g r) is (fourByte (r .asn)) (h .fits));
         obeys = (
           ruled-ranges n r (g r) is (h .obeys .0),
           (subst T (sym (latest-map (λ q. risesRoute q (g r)) g before ∙ latest-agree (λ q. risesRoute (g q) (g r)) (λ q. risesRoute q r) before same)) (h .obeys .1 .0), tt),
@@ -202,4 +209,4 @@ rewritten-held {counts} {t} policy s good v room h =
 -- and as long as it
 pub rewritten-long : (policy : Policy) (s : Snapshot) → length (s .distances) ≡ length (s .ids) * (length (s .ids) - 1) → length (encode (rewritten policy s)) ≡ length (encode s)
 rewritten-long policy s square =
-    omega (arith, encode-size s square, encode-size (rewritten policy s) square, length-map (s .prefixes) (ruledPrefix policy), routesIn-ruled policy (s .prefixes))
+    omega (arith, encode-size s square, encode-size (rewritten policy s) square, length-map (s .prefixes) (ruledPrefix policy), ap sum (all-keep routeSize (λ r p m d. refl) policy (s .prefixes)))

@@ -16,7 +16,7 @@ use Rattle.snapshot.specs.Reading.{AnswerOf, accepted, refused}
 use Rattle.cursor.specs.declared.Cursor.{Cursor}
 use Rattle.cursor.specs.Steps.{finding, bodyLength}
 use Rattle.cursor.specs.StepsLaws.{extraChecks}
-use Rattle.policy.specs.Policy.{Policy, mostSessions, mostClauses, policyForms, asnTests, recordsIn}
+use Rattle.policy.specs.Policy.{Policy, mostSessions, mostClauses, policyForms, clauseAsnTests, recordsIn}
 use Rattle.policy.specs.Reading.{bare, Entry, entries, among, recordsFrom, reading}
 use Rattle.policy.specs.PlaceLaws.{last}
 use Rattle.sessions.specs.declared.Judged.{Judged}
@@ -57,7 +57,7 @@ abbrev pub faultsOf : ℕ → Latest → List ℕ → ℕ → List Check
 faultsOf kind k bs at =
     cond (eqb kind 1) (sessionFaults k (numberAt 1 bs (at + 1)) (numberAt 4 bs (at + 2)))
     (cond (eqb kind 2) ((none (prefixTests (numberAt 4 bs (at + 1)) (numberAt 1 bs (at + 5))) else Field) ∷ [])
-    (cond (eqb kind 3) ((none (asnTests (numberAt 4 bs (at + 1))) else Field) ∷ []) []))
+    (cond (eqb kind 3) ((none (clauseAsnTests (numberAt 4 bs (at + 1))) else Field) ∷ []) []))
 
 -- what to know with one more session
 abbrev pub moreSession : Latest → ℕ → ℕ → Latest

@@ -9,13 +9,13 @@ use mathlib.Core.List.{List, [], _∷_, _++_}
 use lib.ListN.{length, getD, drop, drop-of-length-le}
 use lib.Seq.{drop-cons}
 use lib.Dec.{T, leb, ltb, eqb, ltb→lt, eqb·suc-zero}
-use borrow.Author.Tests.{ne-eqb, eqb-false, lt-ltb, le-ltb}
+use borrow.Author.Tests.{eq-eqb, ne-eqb, eqb-false, lt-ltb, le-ltb}
 use Rattle.wire.specs.Numbers.{numberAt}
 use Rattle.refusal.specs.declared.Refusal.{Refusal}
 use Rattle.refusal.specs.declared.Refusal.the-variants.{Place, Full, Field, Order, Tail}
 use Rattle.refusal.specs.Numbers.{refuses, gives}
 use Rattle.snapshot.specs.Ranges.{rises}
-use Rattle.snapshot.specs.Records.{Form, sum, size, valuesAt}
+use Rattle.snapshot.specs.Records.{Form, only, sum, size, valuesAt}
 use Rattle.snapshot.specs.Format.{Check, _else_, judged, Holds, latest}
 use Rattle.snapshot.specs.Reading.{AnswerOf, refused, unless, either, tail, endRecord}
 use Rattle.snapshot.specs.ChecksLaws.{length-snoc}
@@ -252,8 +252,9 @@ module _ {bs : List ℕ} {c : Cursor} {k : Latest} (known : Known bs c k) (i : E
   unfolding entryRecord
   entry-found =
       reads-one (known .reads) is ∙ a .chosen (withEntry bs at policy) (λ _. withEnd bs at policy (c .records))
-      ∙ record-found policyForms bs at (i .form) (i .room policy) (astrayOf kind k) (fullOf kind k) (i .checks policy) stop on (a .long) room-same
-      ∙ ap (λ (x : Finding). onFinding stop (λ _. onFinding stop on x) (finding (openingOf bs at kind k))) (a .values (known .tells) bs at)
+      ∙ record-found policyForms bs at (only (i .form)) (i .room policy) (astrayOf kind k) (fullOf kind k) (i .checks policy) stop on (a .long) room-same
+      ∙ ap (λ (x : Finding). onFinding stop (λ _. onFinding stop on x) (finding (openingOf bs at kind k)))
+      (ap (λ (b : Bool). cond b (finding (i .checks policy (valuesAt (i .form) bs at))) (Fault Field)) (eq-eqb kind kind refl) ∙ a .values (known .tells) bs at)
 
   opening-stops : {r : Refusal} → Fault r ≡ finding (openingOf bs at kind k) → reading bs ≡ refused r at
   opening-stops e = entry-found ∙ sym (ap (onFinding stop (λ _. onFinding stop on (finding (faultsOf kind k bs at)))) e)

@@ -92,7 +92,7 @@ fn faults(input: &[u8], at: usize, kind: u8, k: Latest) -> Finding
     match kind {
         1 => session_faults(k, wire::get8(input, at + 1), wire::get32(input, at + 2)),
         2 => field(snapshot::prefix_bad(wire::get32(input, at + 1), wire::get8(input, at + 5))),
-        3 => field(policy::asn_bad(wire::get32(input, at + 1))),
+        3 => field(policy::clause_asn_bad(wire::get32(input, at + 1))),
         _ => Finding::Clear,
     }
 }

@@ -9,7 +9,7 @@ use mathlib.Core.List.{[], _∷_}
 use Rattle.refusal.specs.declared.Refusal.the-variants.{Field}
 use Rattle.snapshot.specs.Ranges.{anyOf, prefixTests}
 use Rattle.snapshot.specs.Format.{_else_}
-use Rattle.policy.specs.Policy.{asnTests}
+use Rattle.policy.specs.Policy.{clauseAsnTests}
 use Rattle.cursor.specs.Steps.{finding}
 use Rattle.sessions.specs.Sessions.{sessionFaults, faultsOf}
 use Rattle.sessions.specs.SessionsLaws.{at-kind, no-faults}
@@ -57,10 +57,10 @@ faults-spec =
     let s : tie.Start = search needs in
     let m : tie.At-match-keys3 = search needs in
     let p : tie.After-get323 = search needs in
-    let b : tie.After-asn-bad = search needs in
+    let b : tie.After-clause-asn-bad = search needs in
     let a = s .args in
     c .field2 .ensures
-    ∙ ap (λ (b : Bool). finding ((not b else Field) ∷ [])) (b .asn-bad .ensures ∙ ap (λ (n : ℕ). anyOf (asnTests n)) (p .get323 .ensures))
+    ∙ ap (λ (b : Bool). finding ((not b else Field) ∷ [])) (b .clause-asn-bad .ensures ∙ ap (λ (n : ℕ). anyOf (clauseAsnTests n)) (p .get323 .ensures))
     ∙ sym (ap (λ (n : ℕ). finding (faultsOf n (a .k) (now (a .input)) (a .at))) (m .match .keys3)))
     (λ c.
     let s : tie.Start = search needs in
