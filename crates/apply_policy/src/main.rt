@@ -6,7 +6,7 @@ ghost use Prim.Native.Nat.{_≤_};
 ghost use lib.ListN.{length};
 
 // What is read of each file at most: one byte more than the longest snapshot and the longest policy, since so many decide the answer.
-const SNAPSHOT: usize = 53576;
+const SNAPSHOT: usize = snapshot::LONGEST + 1;
 
 const POLICY: usize = 20934;
 

@@ -30,7 +30,7 @@ enum Finding {
 }
 
 // What is read of a file at most: one byte more than the longest snapshot, since so many decide the answer.
-const INPUT: usize = 53576;
+const INPUT: usize = snapshot::LONGEST + 1;
 
 // No line has more bytes, its name included.
 const LINE: usize = 128;
@@ -274,6 +274,29 @@ fn document() {
     case(b"prefix-10.0.0.1-24");
 }
 
+// Document 02, request b: the neighbour AS at its borders, in both kinds, and both kinds below one prefix.
+fn neighbour_as() {
+    case(b"as-1");
+    case(b"as-23455");
+    case(b"as-23456");
+    case(b"as-23457");
+    case(b"as-65536");
+    case(b"as-4294967294");
+    case(b"as-4294967295");
+    case(b"long-as-0");
+    case(b"long-as-1");
+    case(b"long-as-23456");
+    case(b"long-as-65534");
+    case(b"long-as-65535");
+    case(b"both-kinds");
+    case(b"short-then-long-falls");
+    case(b"long-then-short-falls");
+    case(b"long-cut-in-its-as");
+    case(b"long-cut-by-a-byte");
+    case(b"long-route-without-prefix");
+    case(b"routes-257-of-both-kinds");
+}
+
 // Snapshots with the least and the most of something.
 fn limits() {
     case(b"no-prefixes");
@@ -282,6 +305,7 @@ fn limits() {
     case(b"meds");
     case(b"least");
     case(b"greatest");
+    case(b"greatest-long");
     case(b"prefixes-64");
     case(b"longest");
 }
@@ -292,7 +316,7 @@ fn cut_kind_place() {
     case(b"p5-cut-in-a-route");
     case(b"no-end");
     case(b"kind-0");
-    case(b"kind-7");
+    case(b"kind-8");
     case(b"kind-255");
     case(b"end-first");
     case(b"router-late");
@@ -336,6 +360,7 @@ fn count_tail() {
 
 fn main() {
     document();
+    neighbour_as();
     limits();
     cut_kind_place();
     field();
