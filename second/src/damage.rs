@@ -2,12 +2,20 @@
 //! records, and some mend the end record's number afterwards, so that the later checks get work too.
 
 use crate::policy;
-use crate::record::{body_length, cut_by, encode, Bodies, Record};
+use crate::record::{body_length, cut_by, encode, number, Bodies, Record};
 use crate::seed::Seeded;
+use std::collections::BTreeSet;
 
 /// Values at which a check may turn, as the last bytes of a field.
-const BOUNDARIES: [u32; 16] =
-    [0, 1, 2, 3, 32, 33, 63, 64, 65, 255, 65_534, 65_535, 16_777_215, 16_777_216, u32::MAX - 1, u32::MAX];
+const BOUNDARIES: [u32; 17] =
+    [0, 1, 2, 3, 32, 33, 63, 64, 65, 255, 23_456, 65_534, 65_535, 16_777_215, 16_777_216, u32::MAX - 1, u32::MAX];
+
+/// Those of a neighbour AS.
+const AS_BOUNDARIES: [u32; 10] = [0, 1, 23_455, 23_456, 23_457, 65_534, 65_535, 65_536, u32::MAX - 1, u32::MAX];
+
+/// How long the records of routes are, by their kind.
+const SHORT_ROUTE: (u8, usize) = (5, 24);
+const LONG_ROUTE: (u8, usize) = (7, 26);
 
 /// A damaged copy of a snapshot.
 pub fn damage(bytes: &[u8], seed: u64) -> Vec<u8> {
@@ -55,16 +63,16 @@ fn damaged_bytes(mut bytes: Vec<u8>, seeded: &mut Seeded) -> Vec<u8> {
             let added = 1 + seeded.below(4);
             bytes.extend((0..added).map(|_| seeded.below(256) as u8));
         }
-        _ => bytes.insert(at, seeded.pick(&[0, 1, 2, 3, 4, 5, 6, 7, 255])),
+        _ => bytes.insert(at, seeded.pick(&[0, 1, 2, 3, 4, 5, 6, 7, 8, 255])),
     }
     bytes
 }
 
-/// Two records swapped or spliced, one doubled, dropped or moved, a field or the end record's number altered.
+/// Two records swapped or spliced, one doubled, dropped or moved, a field, the end record's number or an AS altered.
 fn damaged_records(mut records: Vec<Vec<u8>>, seeded: &mut Seeded) -> Vec<Vec<u8>> {
     let one = some_record(&records, seeded);
     let two = some_record(&records, seeded);
-    match seeded.below(10) {
+    match seeded.below(12) {
         0 => records.swap(one, two),
         1 if one > 0 => records.swap(one, one - 1),
         2 => splice(&mut records, one, two, seeded),
@@ -74,6 +82,7 @@ fn damaged_records(mut records: Vec<Vec<u8>>, seeded: &mut Seeded) -> Vec<Vec<u8
             records.remove(one);
         }
         7 => alter_end(&mut records, seeded),
+        8 | 9 => alter_as(&mut records, one, seeded),
         _ => put_boundary(&mut records[one], seeded),
     }
     records
@@ -81,13 +90,10 @@ fn damaged_records(mut records: Vec<Vec<u8>>, seeded: &mut Seeded) -> Vec<Vec<u8
 
 /// A record of a kind taken first, so that the many distances do not draw most of the damage.
 fn some_record(records: &[Vec<u8>], seeded: &mut Seeded) -> usize {
-    let kind = seeded.within(1, 6) as u8;
+    let kinds: BTreeSet<u8> = records.iter().map(|record| record[0]).collect();
+    let kind = seeded.pick(&Vec::from_iter(kinds));
     let of_kind: Vec<usize> = (0..records.len()).filter(|&index| records[index][0] == kind).collect();
-    if of_kind.is_empty() {
-        seeded.below(records.len())
-    } else {
-        seeded.pick(&of_kind)
-    }
+    seeded.pick(&of_kind)
 }
 
 /// A copy one higher in its last byte, which after a prefix or a route is often a sound record more.
@@ -110,6 +116,19 @@ fn splice(records: &mut [Vec<u8>], one: usize, two: usize, seeded: &mut Seeded) 
         let at = seeded.pick(&[2.min(other.len()), anywhere]);
         let spliced = [&records[one][..at], &other[at..]].concat();
         records[one] = spliced;
+    }
+}
+
+/// The first route from one record on takes an AS at which a check may turn, or stays with its own, and becomes of
+/// either kind: also of the one that does not hold its AS, or in which it may not stand.
+fn alter_as(records: &mut [Vec<u8>], from: usize, seeded: &mut Seeded) {
+    let is_route = |record: &&mut Vec<u8>| [SHORT_ROUTE, LONG_ROUTE].contains(&(record[0], record.len()));
+    if let Some(record) = records[from..].iter_mut().find(is_route) {
+        let (head, rest) = record.split_at(record.len() - 20);
+        let boundary = seeded.pick(&AS_BOUNDARIES);
+        let neighbour_as = seeded.pick(&[number(&head[2..]), boundary, boundary]).to_be_bytes();
+        let (kind, held) = seeded.pick(&[(5, &neighbour_as[2..]), (7, &neighbour_as[..])]);
+        *record = [&[kind, head[1]], held, rest].concat();
     }
 }
 

@@ -112,7 +112,8 @@ fn hosted(prefix: u64, length: u64) -> Result<Vec<u8>, String> {
 }
 
 fn randomly(seed: u64, kind: &str) -> Result<Vec<u8>, String> {
-    let snapshot = random::random(seed, kind).ok_or(kinds(&random::KINDS))?;
+    let known = || format!("{}, and each of these with 'mixed-' before it", kinds(&random::KINDS));
+    let snapshot = random::random(seed, kind).ok_or_else(known)?;
     Ok(writer::write(&snapshot))
 }
 

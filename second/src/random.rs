@@ -2,22 +2,32 @@
 
 use crate::seed::Seeded;
 use crate::snapshot::*;
+use std::collections::{BTreeMap, BTreeSet};
 
-/// The kinds by name.
+/// The kinds by name. Each has a second form, with `mixed-` before its name.
 pub const KINDS: [&str; 9] =
     ["small", "open", "wide", "typical", "tied", "limits", "chain-early", "chain-late", "sessions"];
+
+/// The last AS that two bytes hold.
+const LAST_SHORT_AS: u32 = 65_534;
 
 /// A snapshot of the kind, or nothing where there is no such kind.
 pub fn random(seed: u64, kind: &str) -> Option<Snapshot> {
     let mut seeded = Seeded::new(seed);
-    let seeded = &mut seeded;
+    match kind.strip_prefix("mixed-") {
+        Some(kind) => Some(mixed(of_kind(&mut seeded, kind)?, &mut seeded)),
+        None => of_kind(&mut seeded, kind),
+    }
+}
+
+fn of_kind(seeded: &mut Seeded, kind: &str) -> Option<Snapshot> {
     let snapshot = match kind {
         "small" => small(seeded),
         "open" => open(seeded),
         "wide" => network(seeded, ROUTERS, 4, wide),
         "typical" => full(seeded, &[16; PREFIXES], varied_route),
         "tied" => full(seeded, &[ROUTES_OF_PREFIX; 4], tied_route),
-        "limits" => full(seeded, &limits(), varied_route),
+        "limits" => full(seeded, &limits(), long_route),
         "chain-early" => chained(seeded, chain_early),
         "chain-late" => chained(seeded, chain_late),
         "sessions" => full(seeded, &[16; PREFIXES], session_route),
@@ -132,7 +142,7 @@ fn varied_route(seeded: &mut Seeded, serial: u32) -> Route {
     let mark = seeded.pick(&[0, 1, 1, 1]);
     Route {
         router: seeded.below(ROUTERS) as u8,
-        neighbour_as: seeded.within(LAST_AS - 7, LAST_AS),
+        neighbour_as: seeded.within(LAST_SHORT_AS - 7, LAST_SHORT_AS),
         preference: seeded.pick(&[100, 100, 100, 100, 100, 100, 100, 90]),
         path: seeded.pick(&[2, 2, 2, 3]),
         origin: seeded.pick(&[0, 0, 0, 2]),
@@ -141,6 +151,12 @@ fn varied_route(seeded: &mut Seeded, serial: u32) -> Route {
         neighbour_id: seeded.within(1, u32::MAX),
         peer: (seeded.within(0, 0xffff) << 16) + serial + 1,
     }
+}
+
+/// The same with ASes that need four bytes, up to the last one; all of them are the same in their last two bytes.
+fn long_route(seeded: &mut Seeded, serial: u32) -> Route {
+    let route = varied_route(seeded, serial);
+    Route { neighbour_as: ((route.neighbour_as + 1) << 16) | LAST_SHORT_AS, ..route }
 }
 
 /// A route of one of four sessions that every fourth router has, so that there are 64 sessions in all.
@@ -165,10 +181,12 @@ fn contesting(router: u8, neighbour_as: u32, med: u32, neighbour_id: u32, peer: 
 fn chained(seeded: &mut Seeded, chain: fn(usize, usize) -> Vec<Route>) -> Snapshot {
     network(seeded, ROUTERS, 4, |seeded| {
         let routers = shuffled(seeded, ROUTERS);
-        let first_as = seeded.within(0, 60_000);
+        let below_all = seeded.within(0, 60_000);
+        // The ASes are the numbers from the next one on; the place of one that is no AS is taken by this number.
+        let called = |number: u32| if NO_AS.contains(&(below_all + number)) { below_all } else { below_all + number };
         let moved = |route: Route| Route {
             router: routers[route.owner()] as u8,
-            neighbour_as: route.neighbour_as + first_as,
+            neighbour_as: called(route.neighbour_as),
             ..route
         };
         chain(17, ROUTES_OF_PREFIX).into_iter().map(moved).collect()
@@ -194,6 +212,28 @@ pub fn chain_late(ases: usize, routes: usize) -> Vec<Route> {
 fn chain_route(router: usize, neighbour_as: usize, med: usize, liking: usize) -> Route {
     let liking = 1 + liking as u32;
     contesting(router as u8, 1 + neighbour_as as u32, med as u32, liking, liking)
+}
+
+/// The same snapshot with its ASes called otherwise, each by a name of its own. Which routes are of one AS stays, and
+/// so does every forecast; whoever takes an AS for its last two bytes finds more routes of one AS than there are.
+fn mixed(mut snapshot: Snapshot, seeded: &mut Seeded) -> Snapshot {
+    let routes = snapshot.prefixes.iter().flat_map(|prefix| &prefix.routes);
+    let ases: BTreeSet<u32> = routes.map(|route| route.neighbour_as).collect();
+    let names: Vec<u32> = names().skip(seeded.below(14)).take(ases.len()).collect();
+    let named = shuffled(seeded, ases.len()).into_iter().map(|place| names[place]);
+    let called: BTreeMap<u32, u32> = ases.into_iter().zip(named).collect();
+    for route in snapshot.prefixes.iter_mut().flat_map(|prefix| &mut prefix.routes) {
+        route.neighbour_as = called[&route.neighbour_as];
+    }
+    snapshot
+}
+
+/// Different ASes, those of two bytes and of four beside each other that are the same in their last two bytes. Some of
+/// these are no AS by themselves.
+fn names() -> impl Iterator<Item = u32> {
+    let ends = [1, 23_456, LAST_SHORT_AS, 65_535, 2, 0].into_iter().chain(3..23_456);
+    let names = ends.flat_map(|end| [0, 1, 0xffff].map(|front: u32| (front << 16) | end));
+    names.filter(|name| !NO_AS.contains(name))
 }
 
 /// A network with its prefixes; `routes` makes each prefix's routes, in any order.

@@ -1,6 +1,6 @@
 //! Reading a snapshot: record by record, each put to the checks of document 01 in their order.
 
-use crate::record::{body_length, decode, Record};
+use crate::record::{body_length, decode, encode, Record};
 use crate::snapshot::*;
 
 /// The snapshot of these bytes, or the first no with its place.
@@ -61,7 +61,7 @@ impl Reading {
     fn judge(&self, rest: &[u8]) -> Result<(Record, usize), No> {
         let (kind, body) = opened(rest, body_length, |kind| self.may_stand(kind), |kind| self.is_full(kind))?;
         let record = decode(kind, body);
-        check(self.in_range(&record), No::Field)?;
+        check(self.in_range(&record) && is_written_as(kind, &record), No::Field)?;
         check(self.is_due(&record), No::Order)?;
         check(!self.is_twin(&record), No::Twin)?;
         check(self.counts(&record), No::Count)?;
@@ -82,7 +82,7 @@ impl Reading {
             1 => self.records == 0,
             2 => self.snapshot.ids.len() < self.routers,
             3 => self.routers_known() && self.distances < self.pairs(),
-            5 => !self.snapshot.prefixes.is_empty(),
+            5 | 7 => !self.snapshot.prefixes.is_empty(),
             _ => network_known,
         }
     }
@@ -91,7 +91,7 @@ impl Reading {
         let prefixes = &self.snapshot.prefixes;
         match kind {
             4 => prefixes.len() == PREFIXES,
-            5 => {
+            5 | 7 => {
                 let in_prefix = prefixes.last().map_or(0, |prefix| prefix.routes.len());
                 in_prefix == ROUTES_OF_PREFIX || self.snapshot.routes() == ROUTES
             }
@@ -182,8 +182,13 @@ pub fn prefix_in_range(address: u32, length: u8) -> bool {
     length <= 32 && address.checked_shl(u32::from(length)).unwrap_or(0) == 0
 }
 
+/// Whether writing gives the record the kind that it has: an AS that two bytes hold may not stand in kind 7.
+fn is_written_as(kind: u8, record: &Record) -> bool {
+    encode(record)[0] == kind
+}
+
 fn route_in_range(route: &Route) -> bool {
-    (1..=LAST_AS).contains(&route.neighbour_as)
+    !NO_AS.contains(&route.neighbour_as)
         && route.path >= 1
         && route.origin <= 2
         && (route.mark == 1 || (route.mark == 0 && route.med == 0))

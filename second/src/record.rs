@@ -22,6 +22,7 @@ pub fn body_length(kind: u8) -> Option<usize> {
         4 => Some(5),
         5 => Some(23),
         6 => Some(4),
+        7 => Some(25),
         _ => None,
     }
 }
@@ -35,6 +36,7 @@ pub fn kind_name(kind: u8) -> &'static str {
         4 => "prefix",
         5 => "route",
         6 => "end",
+        7 => "route with an AS of four bytes",
         _ => "unknown kind",
     }
 }
@@ -51,23 +53,25 @@ pub fn decode(kind: u8, body: &[u8]) -> Record {
         2 => Record::Id { index: body[0], id: number(&body[1..5]) },
         3 => Record::Distance { from: body[0], to: body[1], distance: number(&body[2..6]) },
         4 => Record::Prefix { address: number(&body[0..4]), length: body[4] },
-        5 => Record::Route(decode_route(body)),
+        5 | 7 => Record::Route(decode_route(body)),
         6 => Record::End(number(&body[0..4])),
         _ => panic!("kind {kind} has no body"),
     }
 }
 
+/// The last 20 bytes are the same fields in both kinds of routes; what stands between the router and them is the AS.
 fn decode_route(body: &[u8]) -> Route {
+    let (head, rest) = body.split_at(body.len() - 20);
     Route {
-        router: body[0],
-        neighbour_as: number(&body[1..3]),
-        preference: number(&body[3..7]),
-        path: u16::from_be_bytes([body[7], body[8]]),
-        origin: body[9],
-        mark: body[10],
-        med: number(&body[11..15]),
-        neighbour_id: number(&body[15..19]),
-        peer: number(&body[19..23]),
+        router: head[0],
+        neighbour_as: number(&head[1..]),
+        preference: number(&rest[0..4]),
+        path: u16::from_be_bytes([rest[4], rest[5]]),
+        origin: rest[6],
+        mark: rest[7],
+        med: number(&rest[8..12]),
+        neighbour_id: number(&rest[12..16]),
+        peer: number(&rest[16..20]),
     }
 }
 
@@ -83,10 +87,15 @@ pub fn encode(record: &Record) -> Vec<u8> {
     }
 }
 
+/// Of kind 5 where two bytes hold the AS, and of kind 7 where they do not.
 fn encode_route(route: &Route) -> Vec<u8> {
+    let (kind, neighbour_as) = match &route.neighbour_as.to_be_bytes() {
+        [0, 0, short @ ..] => (5, short.to_vec()),
+        long => (7, long.to_vec()),
+    };
     [
-        &[5, route.router][..],
-        &route.neighbour_as.to_be_bytes()[2..],
+        &[kind, route.router][..],
+        &neighbour_as,
         &route.preference.to_be_bytes(),
         &route.path.to_be_bytes(),
         &[route.origin, route.mark],

@@ -60,7 +60,7 @@ fn sheet_route(router: u8, row: u32) -> Route {
 
 fn set_field(route: &mut Route, name: &str, value: &str) -> Result<(), String> {
     match (name, value) {
-        ("as", _) => route.neighbour_as = number(value, 0xffff)?,
+        ("as", _) => route.neighbour_as = number(value, u32::MAX)?,
         ("preference", _) => route.preference = number(value, u32::MAX)?,
         ("path", _) => route.path = number(value, 0xffff)? as u16,
         ("origin", "igp") => route.origin = 0,

@@ -8,9 +8,12 @@ pub const PREFIXES: usize = 64;
 pub const ROUTES_OF_PREFIX: usize = 256;
 pub const ROUTES: usize = 1024;
 
-/// The largest interior distance and the largest neighbour AS.
+/// The largest interior distance.
 pub const FARTHEST: u32 = 16_777_215;
-pub const LAST_AS: u32 = 65_534;
+
+/// The numbers of 32 bits that are no neighbour's AS. 23456 stands in for each AS of four bytes where a router knows
+/// only two (RFC 6793).
+pub const NO_AS: [u32; 4] = [0, 23_456, 65_535, u32::MAX];
 
 #[derive(Clone, Debug, Default, PartialEq, Eq)]
 pub struct Snapshot {

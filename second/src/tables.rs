@@ -18,6 +18,7 @@ pub const ADDRESS: usize = 2;
 pub const LENGTH: usize = 3;
 pub const OF_PREFIX: usize = 4;
 pub const OF_ROUTE: usize = 5;
+pub const NEIGHBOUR_AS: usize = OF_ROUTE + 1;
 pub const PEER: usize = OF_ROUTE + 8;
 
 /// The entries for which each table must have room.

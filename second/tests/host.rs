@@ -48,7 +48,8 @@ fn refusals_come_in_order_and_leave_the_area() {
 #[test]
 fn it_answers_as_the_forecast_does() {
     for seed in 0..500 {
-        let whole = writer::write(&random::random(seed, "open").expect("a kind"));
+        let kind = ["open", "mixed-open"][seed as usize % 2];
+        let whole = writer::write(&random::random(seed, kind).expect("a kind"));
         let bytes = damage::damage(&whole, seed);
         for bytes in [whole, bytes] {
             let mut area = [0xee; 256];

@@ -86,6 +86,17 @@ fn a_field_is_given_once() {
     }
 }
 
+/// An AS that two bytes hold makes a record of 24 bytes, kind 5, any other one of 26, kind 7.
+#[test]
+fn the_as_tells_the_kind_of_a_route() {
+    for (neighbour_as, kind, length) in
+        [("0", 5, 24), ("23456", 5, 24), ("65535", 5, 24), ("65536", 7, 26), ("4294967295", 7, 26)]
+    {
+        let bytes = make(&with_route(&format!("as {neighbour_as} path 7 id 8 peer 9"))).expect("encodable").bytes;
+        assert_eq!((bytes[14], bytes.len()), (kind, 14 + length + 5), "AS {neighbour_as}");
+    }
+}
+
 #[test]
 fn distances_by_pair_direction_row_and_default() {
     let made = |lines: &str| snapshot(&with_distances(lines)).distances;
@@ -141,7 +152,7 @@ fn faults_name_their_line() {
         ("router one", "line 1: 'one' is not a number from 0 to 4294967295"),
         ("router 1\nprefix 10.0.0.0", "line 2: expected 'prefix A.B.C.D/LENGTH'"),
         ("router 1\n\nroute 0 as", "line 3: 'as' has no value"),
-        ("route 0 as 65536", "line 1: '65536' is not a number from 0 to 65535"),
+        ("route 0 as 4294967296", "line 1: '4294967296' is not a number from 0 to 4294967295"),
         ("route 0 colour 1", "line 1: a route has no field 'colour'"),
         ("route", "line 1: expected 'route ROUTER' and its fields"),
         ("distance 1", &format!("line 1: {forms}")),
@@ -168,7 +179,7 @@ fn a_text_without_routers_says_so() {
     for notation in ["", "\n", "# nothing yet\n", "prefix 10.0.0.0/8", "\nend 0"] {
         assert_eq!(fault(notation), "line 1: no router is named", "{notation:?}");
     }
-    assert_eq!(fault("# bytes\nraw 07"), "line 2: the snapshot would be refused 3 0 (Kind)");
+    assert_eq!(fault("# bytes\nraw 08"), "line 2: the snapshot would be refused 3 0 (Kind)");
     assert_eq!(make("# nothing yet\n").expect("encodable").bytes, []);
 }
 
@@ -186,6 +197,7 @@ fn a_refused_record_is_traced_to_its_line() {
         ("router 1\n# a comment\nprefix 10.0.0.1/8".to_string(), refused(3, "5 8 (Field)")),
         ("router 1\n\nroute 0 as 1 path 1 id 1 peer 1".to_string(), refused(3, "4 8 (Place)")),
         (with_route("as 0 path 1 id 1 peer 1"), refused(3, "5 14 (Field)")),
+        (with_route("as 23456 path 1 id 1 peer 1"), refused(3, "5 14 (Field)")),
         ("router 1\nend 3\n\n".to_string(), refused(2, "9 8 (Count)")),
         ("router 1\n\nend none\n".to_string(), refused(3, "2 8 (Cut)")),
         ("router 1\nend none\nraw 04\n# a comment".to_string(), refused(3, "2 8 (Cut)")),
@@ -247,7 +259,8 @@ fn raw_lines_are_bytes_and_count_as_records() {
 #[test]
 fn whatever_is_shown_makes_the_same_bytes_again() {
     for seed in 0..400 {
-        let whole = writer::write(&random::random(seed, ["small", "open"][seed as usize % 2]).expect("a kind"));
+        let kind = ["small", "open", "mixed-small", "mixed-open"][seed as usize % 4];
+        let whole = writer::write(&random::random(seed, kind).expect("a kind"));
         for bytes in [damage::damage(&whole, seed), whole] {
             let made = make(&show::show(&bytes)).expect("what is shown is sound");
             assert_eq!(made.bytes, bytes);

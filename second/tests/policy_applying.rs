@@ -117,6 +117,18 @@ fn an_as_clause_fits_paths_of_length_1_only() {
 }
 
 #[test]
+fn an_as_clause_fits_routes_of_both_kinds_by_all_32_bits() {
+    for neighbour_as in [1, 23_457, 65_534, 65_536, 65_543, u32::MAX - 1] {
+        let route = format!("route 0 as {neighbour_as} path 1");
+        assert_eq!(fitted(&format!("as {neighbour_as} preference 150"), &route), [150], "{route}");
+    }
+    for (clause, neighbour_as) in [(7, 65_543), (65_543, 131_079), (65_534, u32::MAX - 1), (23_456, 88_992)] {
+        let route = format!("route 0 as {neighbour_as} path 1");
+        assert_eq!(fitted(&format!("as {clause} preference 150"), &route), [100], "AS {clause}, {route}");
+    }
+}
+
+#[test]
 fn a_prefix_clause_fits_address_and_length() {
     let notation = "router 1\nprefix 10.0.0.0/8\nroute 0\nprefix 10.0.0.0/9\nroute 0\nprefix 10.128.0.0/9\nroute 0";
     let fitted = |prefix: &str| {
@@ -245,7 +257,8 @@ fn the_call_over_tables_refuses_in_order_and_leaves_them() {
 fn a_rewritten_snapshot_is_sound_and_stays() {
     let mut changed = 0;
     for seed in 0..1500 {
-        let snapshot = snapshots::random(seed, ["small", "open"][seed as usize % 2]).expect("a kind");
+        let kind = ["small", "open", "mixed-small", "mixed-open"][seed as usize % 4];
+        let snapshot = snapshots::random(seed, kind).expect("a kind");
         let policy = random::random(seed, "mixed", &snapshot).expect("a kind");
         let after = applied(&snapshot, &policy);
         assert_eq!(read(&writer::write(&after)).as_ref(), Ok(&after));
@@ -266,7 +279,7 @@ fn prefixes_alike(one: &Snapshot, other: &Snapshot) -> bool {
 #[test]
 fn both_calls_answer_as_the_program_does() {
     for seed in 0..600 {
-        let snapshot = snapshots::random(seed, "small").expect("a kind");
+        let snapshot = snapshots::random(seed, ["small", "mixed-small"][seed as usize % 2]).expect("a kind");
         let policy = record::write(&random::random(seed, "mixed", &snapshot).expect("a kind"));
         let whole = writer::write(&snapshot);
         let damaged = damage::damage_policy(&policy, seed);

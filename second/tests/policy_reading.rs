@@ -229,7 +229,7 @@ fn the_longest_policy_has_20933_bytes() {
 #[test]
 fn what_is_written_reads_back_the_same() {
     for seed in 0..600 {
-        let snapshot = snapshots::random(seed, ["small", "open", "sessions"][seed as usize % 3]).expect("a kind");
+        let snapshot = snapshots::random(seed, ["small", "mixed-open", "sessions"][seed as usize % 3]).expect("a kind");
         let kind = random::KINDS[seed as usize / 3 % 3];
         let policy = random::random(seed, kind, &snapshot).expect("a kind");
         let bytes = write(&policy);

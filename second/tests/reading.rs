@@ -71,7 +71,7 @@ fn cut_points(bytes: &[u8]) -> Vec<usize> {
 
 #[test]
 fn kind() {
-    for kind in (0..=0).chain(7..=255) {
+    for kind in (0..=0).chain(8..=255) {
         assert_eq!(refusal(&[kind]), (Kind, 0));
         assert_eq!(refusal(&[1, 1, kind]), (Kind, 2));
         assert_eq!(refusal(&[1, 1, 2, 0, 0, 0, 0, 1, kind, 0]), (Kind, 8));
@@ -80,17 +80,17 @@ fn kind() {
 
 #[test]
 fn place() {
-    for kind in 2..=6 {
+    for kind in 2..=7 {
         assert_eq!(refusal(&[kind]), (Place, 0));
     }
-    for kind in [1, 3, 4, 5, 6] {
+    for kind in [1, 3, 4, 5, 6, 7] {
         assert_eq!(refusal(&[1, 2, kind]), (Place, 2));
         assert_eq!(refusal(&[1, 2, 2, 0, 0, 0, 0, 1, kind]), (Place, 8));
     }
-    for kind in [1, 2, 4, 5, 6] {
+    for kind in [1, 2, 4, 5, 6, 7] {
         assert_eq!(refusal(&[1, 2, 2, 0, 0, 0, 0, 1, 2, 1, 0, 0, 0, 2, kind]), (Place, 14));
     }
-    for kind in ["01", "02", "03", "05"] {
+    for kind in ["01", "02", "03", "05", "07"] {
         refused(&format!("router 1\nraw {kind}\nend none"), Place, 8);
         refused(&format!("router 1 2\nraw {kind}\nend none"), Place, 28);
     }
@@ -137,7 +137,9 @@ fn field_of_a_route() {
         "route 1",
         "route 255",
         "route 0 as 0",
+        "route 0 as 23456",
         "route 0 as 65535",
+        "route 0 as 4294967295",
         "route 0 path 0",
         "route 0 origin 3",
         "route 0 origin 255",
@@ -152,7 +154,11 @@ fn field_of_a_route() {
     }
     let accepted_values = [
         "route 0 as 1",
+        "route 0 as 23455",
+        "route 0 as 23457",
         "route 0 as 65534",
+        "route 0 as 65536",
+        "route 0 as 4294967294",
         "route 0 preference 0",
         "route 0 preference 4294967295",
         "route 0 path 1",
@@ -245,7 +251,7 @@ fn count() {
 
 #[test]
 fn tail() {
-    for byte in ["00", "01", "06", "07", "ff"] {
+    for byte in ["00", "01", "06", "07", "08", "ff"] {
         refused(&format!("router 1\nend 2\nraw {byte}"), Tail, 13);
     }
 }
@@ -261,23 +267,25 @@ fn earlier_checks_come_first() {
 }
 
 #[test]
-fn the_longest_snapshot_has_53575_bytes() {
+fn the_longest_snapshot_has_55623_bytes() {
     let mut longest = writer::write(&random::random(1, "limits").expect("a kind"));
-    assert_eq!(longest.len(), 53_575);
+    assert_eq!(longest.len(), 55_623);
     assert!(read(&longest).is_ok());
     longest.push(0);
-    assert_eq!(refusal(&longest), (Tail, 53_575));
+    assert_eq!(refusal(&longest), (Tail, 55_623));
 }
 
 #[test]
 fn what_is_written_reads_back_the_same() {
     for seed in 0..300 {
         for kind in random::KINDS.iter().take(if seed < 3 { random::KINDS.len() } else { 2 }) {
-            let snapshot = random::random(seed, kind).expect("a kind");
-            let bytes = writer::write(&snapshot);
-            let back = read(&bytes).expect("a written snapshot is sound");
-            assert_eq!(back, snapshot);
-            assert_eq!(writer::write(&back), bytes);
+            for kind in [kind.to_string(), format!("mixed-{kind}")] {
+                let snapshot = random::random(seed, &kind).expect("a kind");
+                let bytes = writer::write(&snapshot);
+                let back = read(&bytes).expect("a written snapshot is sound");
+                assert_eq!(back, snapshot);
+                assert_eq!(writer::write(&back), bytes);
+            }
         }
     }
 }

@@ -75,6 +75,24 @@ fn writing_gives_the_bytes_that_were_read() {
     assert_eq!(write(counts, &lent, &mut out[..length]), Ok(length));
 }
 
+/// The second prefix's second route, whose AS is the only one to need four bytes.
+#[test]
+fn writing_takes_kind_7_where_the_as_needs_it() {
+    let (counts, mut lent) = lent();
+    lent[NEIGHBOUR_AS][2] = 0x0001_0002;
+    let mut wanted = bytes();
+    let route = wanted.len() - 5 - 24;
+    assert_eq!(wanted[route..route + 4], [5, 0, 0, 2]);
+    wanted.splice(route..route + 4, [7, 0, 0, 1, 0, 2]);
+    let mut out = vec![0xee; wanted.len() + 1];
+    assert_eq!(write(counts, &lent, &mut out), Ok(wanted.len()));
+    assert_eq!(out, [&wanted[..], &[0xee]].concat());
+    let mut again = unused();
+    assert_eq!(read(&wanted, &mut again), Ok(counts));
+    assert!(again == lent);
+    assert_eq!(write(counts, &lent, &mut out[..wanted.len() - 1]), Err(No::Room));
+}
+
 /// Router 0 takes the lower neighbour id of its two, router 1 follows.
 #[test]
 fn a_forecast_fills_the_entries_of_the_routers_only() {
@@ -112,9 +130,16 @@ fn a_used_value_out_of_range_is_table() {
         (route(0), 0, 256, true),
         (route(0), 1, 1, true),
         (route(1), 0, 0, true),
+        (route(1), 0, 1, false),
+        (route(1), 0, 23_455, false),
+        (route(1), 0, 23_456, true),
+        (route(1), 0, 23_457, false),
         (route(1), 0, 65_534, false),
         (route(1), 0, 65_535, true),
-        (route(1), 0, 65_536 + 7, true),
+        (route(1), 0, 65_536, false),
+        (route(1), 0, 65_536 + 7, false),
+        (route(1), 0, u32::MAX - 1, false),
+        (route(1), 0, u32::MAX, true),
         (route(2), 0, 0, false),
         (route(2), 0, u32::MAX, false),
         (route(3), 0, 0, true),

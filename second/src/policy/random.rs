@@ -107,7 +107,8 @@ fn mixed_prefix(seeded: &mut Seeded, prefix: &Prefix) -> Fits {
 /// The route's AS, or another one: also those that are the same in their last two bytes.
 fn mixed_direct(seeded: &mut Seeded, route: &Route) -> Fits {
     let same = route.neighbour_as;
-    let neighbour_as = seeded.pick(&[same, same, same, same, same + 65_536, 23_456, 65_535, LAST_CLAUSE_AS]);
+    let near = (same ^ 65_536).clamp(1, LAST_CLAUSE_AS);
+    let neighbour_as = seeded.pick(&[same, same, same, same, near, 23_456, 65_535, LAST_CLAUSE_AS]);
     Fits::Direct { neighbour_as }
 }
 
@@ -144,7 +145,7 @@ fn unfit(seeded: &mut Seeded, number: u32, snapshot: &Snapshot) -> Fits {
     let address = seeded.within(0, u32::MAX);
     let named = snapshot.prefixes.iter().any(|prefix| (prefix.address, prefix.length) == (address, 32));
     if named || number.is_multiple_of(2) {
-        Fits::Direct { neighbour_as: 65_535 + number }
+        Fits::Direct { neighbour_as: if number % 4 == 2 { 23_456 } else { 65_535 } }
     } else {
         Fits::Prefix { address, length: 32 }
     }
