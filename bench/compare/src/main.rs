@@ -12,7 +12,7 @@ use programs::Programs;
 use sides::Sides;
 use std::process::ExitCode;
 
-const INPUTS: [&str; 5] = ["typical", "tied", "chain-early", "chain-late", "longest"];
+const INPUTS: [&str; 6] = ["typical", "mixed", "tied", "chain-early", "chain-late", "longest"];
 
 /// Policies for the snapshot of sessions.
 const POLICIES: [&str; 2] = ["some-clauses", "all-clauses"];

@@ -1,16 +1,16 @@
-//! Going along the records of a snapshot or of a policy, whose kinds are 1 to 6 in both.
+//! Going along the records of a snapshot or of a policy, whose kinds begin with 1 in both.
 
 use crate::tables::*;
 
-/// The place and the number of records before it.
-pub struct Cursor<'a> {
+/// The place and the number of records before it, in a file whose kinds end with `LAST_KIND`.
+pub struct Cursor<'a, const LAST_KIND: u8> {
     pub input: &'a [u8],
     pub place: usize,
     records: u32,
 }
 
-impl<'a> Cursor<'a> {
-    pub fn new(input: &'a [u8]) -> Cursor<'a> {
+impl<'a, const LAST_KIND: u8> Cursor<'a, LAST_KIND> {
+    pub fn new(input: &'a [u8]) -> Self {
         Cursor { input, place: 0, records: 0 }
     }
 
@@ -30,7 +30,7 @@ impl<'a> Cursor<'a> {
     pub fn kind(&self) -> Result<u8, Refusal> {
         match self.input.get(self.place) {
             None => self.no(CUT),
-            Some(kind @ 1..=6) => Ok(*kind),
+            Some(&kind) if (1..=LAST_KIND).contains(&kind) => Ok(kind),
             Some(_) => self.no(KIND),
         }
     }
@@ -50,6 +50,7 @@ impl<'a> Cursor<'a> {
         self.place += 1 + body;
         self.records += 1;
     }
+
     /// The end record: CUT, COUNT, and TAIL behind it.
     pub fn end(&mut self) -> Result<(), Refusal> {
         let &records = self.body()?;

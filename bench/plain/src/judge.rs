@@ -44,7 +44,7 @@ impl Route {
 
     pub fn in_range(&self, routers: usize) -> bool {
         (self.router as usize) < routers
-            && (1..=LAST_AS).contains(&self.neighbour_as)
+            && !matches!(self.neighbour_as, 0 | STAND_IN | SHORT | u32::MAX)
             && (1..=0xffff).contains(&self.path)
             && self.origin <= 2
             && (self.mark == 1 || (self.mark == 0 && self.med == 0))

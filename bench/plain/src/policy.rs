@@ -1,8 +1,10 @@
 //! An import policy: one pass that judges and writes nothing, then each session once along the routes.
 
-use crate::cursor::Cursor;
+use crate::cursor;
 use crate::judge::{judge_tables, prefix_in_range};
 use crate::tables::*;
+
+type Cursor<'a> = cursor::Cursor<'a, 6>;
 
 /// The preference of a route that no clause fits.
 const USUAL: u32 = 100;

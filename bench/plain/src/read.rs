@@ -1,8 +1,10 @@
 //! Reading: one pass that judges and writes nothing, then one that fills the tables.
 
-use crate::cursor::Cursor;
+use crate::cursor;
 use crate::judge::{prefix_in_range, Route};
 use crate::tables::*;
+
+type Cursor<'a> = cursor::Cursor<'a, 7>;
 
 pub fn read(input: &[u8], tables: &mut Tables) -> Result<Counts, Refusal> {
     tables.check_room()?;
@@ -70,10 +72,10 @@ fn judge_prefixes(cursor: &mut Cursor, routers: usize) -> Result<(usize, usize),
                 prefixes += 1;
                 in_prefix = 0;
             }
-            5 => {
+            kind @ (5 | 7) => {
                 cursor.check(prefixes > 0, PLACE)?;
                 cursor.check(in_prefix < ROUTES_OF_PREFIX && routes < ROUTES, FULL)?;
-                judge_route(cursor, routers, &mut last)?;
+                judge_route(kind, cursor, routers, &mut last)?;
                 routes += 1;
                 in_prefix += 1;
             }
@@ -95,12 +97,12 @@ fn judge_prefix(cursor: &mut Cursor, last: &mut Last) -> Result<(), Refusal> {
     Ok(())
 }
 
-fn judge_route(cursor: &mut Cursor, routers: usize, last: &mut Last) -> Result<(), Refusal> {
-    let route = decode_route(cursor.body()?);
-    cursor.check(route.in_range(routers), FIELD)?;
+fn judge_route(kind: u8, cursor: &mut Cursor, routers: usize, last: &mut Last) -> Result<(), Refusal> {
+    let (route, _) = decode_route(kind, &cursor.input[cursor.place + 1..]).ok_or((CUT, cursor.place))?;
+    cursor.check(route.in_range(routers) && (kind == 5 || route.neighbour_as > SHORT), FIELD)?;
     cursor.check(last.route < Some((route.router, route.peer)), ORDER)?;
     last.route = Some((route.router, route.peer));
-    cursor.pass(23);
+    cursor.pass(if kind == 5 { 23 } else { 25 });
     Ok(())
 }
 
@@ -108,20 +110,27 @@ fn decode_prefix(&[a, b, c, d, length]: &[u8; 5]) -> (u32, u32) {
     (u32::from_be_bytes([a, b, c, d]), u32::from(length))
 }
 
-fn decode_route(body: &[u8; 23]) -> Route {
-    let two = |at: usize| u32::from(u16::from_be_bytes([body[at], body[at + 1]]));
-    let four = |at: usize| u32::from_be_bytes([body[at], body[at + 1], body[at + 2], body[at + 3]]);
-    Route {
-        router: u32::from(body[0]),
-        neighbour_as: two(1),
-        preference: four(3),
-        path: two(7),
-        origin: u32::from(body[9]),
-        mark: u32::from(body[10]),
-        med: four(11),
-        neighbour_id: four(15),
-        peer: four(19),
-    }
+/// The route whose body begins here, if it is whole, and what stands behind it. Only the AS is shorter in kind 5.
+fn decode_route(kind: u8, body: &[u8]) -> Option<(Route, &[u8])> {
+    let (router, neighbour_as, rest) = match (kind, body) {
+        (5, &[router, a, b, ref rest @ ..]) => (router, u32::from(u16::from_be_bytes([a, b])), rest),
+        (7, &[router, a, b, c, d, ref rest @ ..]) => (router, u32::from_be_bytes([a, b, c, d]), rest),
+        _ => return None,
+    };
+    let (rest, after) = rest.split_first_chunk::<20>()?;
+    let four = |at: usize| u32::from_be_bytes([rest[at], rest[at + 1], rest[at + 2], rest[at + 3]]);
+    let route = Route {
+        router: u32::from(router),
+        neighbour_as,
+        preference: four(0),
+        path: u32::from(u16::from_be_bytes([rest[4], rest[5]])),
+        origin: u32::from(rest[6]),
+        mark: u32::from(rest[7]),
+        med: four(8),
+        neighbour_id: four(12),
+        peer: four(16),
+    };
+    Some((route, after))
 }
 
 /// Fills the used rows from an input that was judged to be sound.
@@ -139,9 +148,9 @@ fn fill(input: &[u8], routers: usize, tables: &mut Tables) {
                 prefix += 1;
                 rest = after;
             }
-            [5, body @ ..] => {
-                let (body, after) = body.split_first_chunk().expect("a judged route");
-                decode_route(body).store(&mut tables.routes, route);
+            [kind @ (5 | 7), body @ ..] => {
+                let (decoded, after) = decode_route(*kind, body).expect("a judged route");
+                decoded.store(&mut tables.routes, route);
                 tables.prefix_routes[prefix - 1] += 1;
                 route += 1;
                 rest = after;

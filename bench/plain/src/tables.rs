@@ -5,14 +5,19 @@ pub const PREFIXES: usize = 64;
 pub const ROUTES_OF_PREFIX: usize = 256;
 pub const ROUTES: usize = 1024;
 pub const FARTHEST: u32 = 16_777_215;
-pub const LAST_AS: u32 = 65_534;
+
+/// The last number that two bytes hold. A neighbour AS above it stands in a route of kind 7, any other one in kind 5.
+pub const SHORT: u32 = 65_535;
+
+/// What stands for any AS that a router cannot tell, so that no neighbour has it.
+pub const STAND_IN: u32 = 23_456;
 
 /// The most sessions of a policy, and the most clauses of a session.
 pub const SESSIONS: usize = 64;
 pub const CLAUSES: usize = 32;
 
 /// The length of the longest snapshot; one byte more decides any input's answer.
-pub const LONGEST: usize = 53_575;
+pub const LONGEST: usize = 55_623;
 
 pub const ROOM: u32 = 1;
 pub const CUT: u32 = 2;

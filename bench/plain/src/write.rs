@@ -9,7 +9,8 @@ pub fn write(counts: Counts, tables: &Tables, out: &mut [u8]) -> Result<usize, R
     judge_tables(counts, tables)?;
     let Counts { routers, prefixes, routes } = counts;
     let pairs = routers * (routers - 1);
-    let length = 2 + 6 * routers + 7 * pairs + 6 * prefixes + 24 * routes + 5;
+    let long = tables.routes.neighbour_as[..routes].iter().filter(|&&neighbour_as| neighbour_as > SHORT).count();
+    let length = 2 + 6 * routers + 7 * pairs + 6 * prefixes + 24 * routes + 2 * long + 5;
     let out = out.get_mut(..length).ok_or((ROOM, 0))?;
     let mut output = Output { rest: out };
     write_network(routers, tables, &mut output);
@@ -62,8 +63,13 @@ fn write_prefixes(prefixes: usize, tables: &Tables, output: &mut Output) {
 }
 
 fn write_route(route: &Route, output: &mut Output) {
-    output.put([5, route.router as u8]);
-    output.put((route.neighbour_as as u16).to_be_bytes());
+    if route.neighbour_as > SHORT {
+        output.put([7, route.router as u8]);
+        output.put(route.neighbour_as.to_be_bytes());
+    } else {
+        output.put([5, route.router as u8]);
+        output.put((route.neighbour_as as u16).to_be_bytes());
+    }
     output.put(route.preference.to_be_bytes());
     output.put((route.path as u16).to_be_bytes());
     output.put([route.origin as u8, route.mark as u8]);

@@ -1,6 +1,6 @@
 //! The baseline against the independent second program, on random and damaged snapshots.
 
-use plain::{forecast, page, policy, read, write, Contest, Counts, Lent, Refusal, NONE};
+use plain::{forecast, page, policy, read, write, Contest, Counts, Lent, Refusal, LONGEST, NONE};
 use second::policy as policies;
 use second::seed::Seeded;
 use second::snapshot::{self, Snapshot};
@@ -13,14 +13,15 @@ fn snapshot(seed: u64, kind: &str) -> Snapshot {
     random::random(seed, kind).expect("a kind")
 }
 
-/// Kinds in turn, the large ones more seldom.
+/// Kinds in turn, the large ones more seldom; half of all with ASes of both lengths.
 fn some_snapshot(seed: u64) -> Snapshot {
     let kind = if seed.is_multiple_of(20) {
         random::KINDS[2 + (seed / 20) as usize % 7]
     } else {
         random::KINDS[seed as usize % 2]
     };
-    snapshot(seed, kind)
+    let form = ["", "mixed-"][(seed / 2 + seed / 20) as usize % 2];
+    snapshot(seed, &format!("{form}{kind}"))
 }
 
 fn printed(input: &[u8]) -> String {
@@ -53,11 +54,57 @@ fn one_more_than_the_limit_is_full() {
     for (body, place) in [
         (prefixes(65, 0), 8 + 64 * 6),
         (prefixes(1, 257), 14 + 256 * 24),
+        (prefixes(1, 256) + "route 0 as 65536\n", 14 + 256 * 24),
+        (prefixes(1, 255) + "route 0 as 65536\nroute 0\n", 14 + 255 * 24 + 26),
         (prefixes(4, 256) + "prefix 4.0.0.0/8\nroute 0\n", 8 + 5 * 6 + 1024 * 24),
+        (prefixes(4, 256) + "prefix 4.0.0.0/8\nroute 0 as 65536\n", 8 + 5 * 6 + 1024 * 24),
     ] {
         let bytes = text::make_from_sheet(&format!("router 1\n{body}")).expect("the notation is sound").bytes;
         assert_eq!(printed(&bytes), format!("refused 8 {place}\n"));
     }
+}
+
+/// One router and one route, whose record stands at 14: kind, router, AS in hexadecimal, and all fields behind it.
+fn with_as(kind: u8, neighbour_as: &str) -> String {
+    let route = format!("raw {kind:02x} 00 {neighbour_as} 00 00 00 64 00 02 00 01 00 00 00 00 00 00 00 01 c0 00 02 01");
+    let made = text::make_from_sheet(&format!("router 1\nprefix 10.0.0.0/8\n{route}"));
+    printed(&made.expect("the notation is sound").bytes)
+}
+
+/// 23456 is 5b a0 in hexadecimal.
+#[test]
+fn ases_at_the_borders() {
+    for (kind, neighbour_as, sound) in [
+        (5, "00 00", false),
+        (5, "00 01", true),
+        (5, "5b 9f", true),
+        (5, "5b a0", false),
+        (5, "5b a1", true),
+        (5, "ff fe", true),
+        (5, "ff ff", false),
+        (7, "00 00 00 00", false),
+        (7, "00 00 00 01", false),
+        (7, "00 00 5b a0", false),
+        (7, "00 00 ff fe", false),
+        (7, "00 00 ff ff", false),
+        (7, "00 01 00 00", true),
+        (7, "00 01 5b a0", true),
+        (7, "00 01 ff ff", true),
+        (7, "ff ff ff fe", true),
+        (7, "ff ff ff ff", false),
+    ] {
+        let page = if sound { "forecast 1 1\nprefix 10.0.0.0/8 settled\nrouter 0 own 0\n" } else { "refused 5 14\n" };
+        assert_eq!(with_as(kind, neighbour_as), page, "kind {kind}, AS {neighbour_as}");
+    }
+}
+
+#[test]
+fn the_longest_snapshot() {
+    let mut longest = writer::write(&snapshot(1, "limits"));
+    assert_eq!(longest.len(), LONGEST);
+    assert!(printed(&longest).starts_with("forecast 64 64\n"));
+    longest.push(7);
+    assert_eq!(printed(&longest), "refused 10 55623\n");
 }
 
 /// The tables as the second program's snapshot says they must be, with `BEFORE` in every unused row.
@@ -132,7 +179,10 @@ fn sound(counts: Counts, lent: &Lent) -> bool {
 
 /// A value somewhere in the tables, or a count, altered.
 fn altered(seeded: &mut Seeded, counts: &mut Counts, lent: &mut Lent) {
-    const VALUES: [u32; 14] = [0, 1, 2, 3, 33, 64, 255, 256, 65_534, 65_535, 65_536, 16_777_215, 16_777_216, u32::MAX];
+    const VALUES: [u32; 16] = {
+        let last = u32::MAX;
+        [0, 1, 2, 3, 33, 64, 255, 256, 23_456, 65_534, 65_535, 65_536, 16_777_215, 16_777_216, last - 1, last]
+    };
     match seeded.below(12) {
         0 => counts.routers = seeded.pick(&[0, 1, 2, counts.routers + 1, 64, 65]),
         1 => counts.prefixes = seeded.pick(&[0, 1, counts.prefixes + 1, 64, 65]),
@@ -156,7 +206,7 @@ fn table_is_given_exactly_where_no_snapshot_reads_so() {
         let mut lent = wanted_tables(&snapshot);
         let mut counts = counts(&snapshot);
         altered(&mut Seeded::new(seed), &mut counts, &mut lent);
-        let mut out = vec![0xee; 53_575];
+        let mut out = vec![0xee; LONGEST];
         let (mut early, mut late) = ([7; 64], [7; 64]);
         let written = write(counts, &lent.tables(), &mut out);
         let forecast = forecast(counts, &lent.tables(), 64, &mut early, &mut late);
@@ -182,9 +232,32 @@ fn rows_beyond_the_last_are_table() {
     let tables = lent.tables();
     (tables.address[4], tables.length[4], tables.prefix_routes[4]) = (u32::MAX, 32, 256);
     let counts = Counts { prefixes: 5, ..counts(&snapshot) };
-    assert_eq!(write(counts, &tables, &mut [0; 53_575]), Err((11, 0)));
+    assert_eq!(write(counts, &tables, &mut [0; LONGEST]), Err((11, 0)));
     tables.prefix_routes[4] = 0;
-    assert!(write(counts, &tables, &mut [0; 53_575]).is_ok());
+    assert!(write(counts, &tables, &mut [0; LONGEST]).is_ok());
+}
+
+#[test]
+fn table_at_the_borders_of_the_as() {
+    let snapshot = snapshot(1, "tied");
+    for (neighbour_as, sound) in [
+        (0, false),
+        (1, true),
+        (23_455, true),
+        (23_456, false),
+        (23_457, true),
+        (65_534, true),
+        (65_535, false),
+        (65_536, true),
+        (u32::MAX - 1, true),
+        (u32::MAX, false),
+    ] {
+        let mut lent = wanted_tables(&snapshot);
+        let tables = lent.tables();
+        tables.routes.neighbour_as[700] = neighbour_as;
+        let written = write(counts(&snapshot), &tables, &mut [0; LONGEST]);
+        assert_eq!(written.map_err(|(number, _)| number).err(), (!sound).then_some(11), "AS {neighbour_as}");
+    }
 }
 
 #[test]
