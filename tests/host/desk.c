@@ -2,6 +2,7 @@
 #include "desk.h"
 
 #include <stdio.h>
+#include <string.h>
 
 static unsigned passed, failed;
 
@@ -80,6 +81,16 @@ const uint8_t p5[P5_LENGTH] = {
 };
 
 const uint16_t p5_rows[2 * 3] = {1, 0, 3, 2, 1, 0};
+const uint16_t settled_rows[2 * 3] = {1, 1, 3, 3, 1, 1};
+
+void make_long_p5(uint8_t bytes[LONG_P5_LENGTH], uint32_t neighbour_as) {
+    memcpy(bytes, p5, 70);
+    bytes[68] = 7;
+    for (size_t place = 0; place < 4; place++) {
+        bytes[70 + place] = (uint8_t)(neighbour_as >> (8 * (3 - place)));
+    }
+    memcpy(bytes + 74, p5 + 72, P5_LENGTH - 72);
+}
 
 static void put(struct making *making, size_t width, uint32_t value) {
     for (size_t left = width; left > 0; left--) {
@@ -120,11 +131,12 @@ void make_prefix(struct making *making, uint32_t address, uint8_t length) {
     put(making, 1, length);
 }
 
-void make_route(struct making *making, uint8_t router, uint16_t neighbour_as, uint32_t preference, uint32_t med,
+void make_route(struct making *making, uint8_t router, uint32_t neighbour_as, uint32_t preference, uint32_t med,
                 uint32_t neighbour_id, uint32_t peer) {
-    put_kind(making, 5);
+    bool is_long = neighbour_as > 65535;
+    put_kind(making, is_long ? 7 : 5);
     put(making, 1, router);
-    put(making, 2, neighbour_as);
+    put(making, is_long ? 4 : 2, neighbour_as);
     put(making, 4, preference);
     put(making, 2, 2);
     put(making, 1, 0);
@@ -145,10 +157,15 @@ void make_longest(struct making *making) {
     for (uint32_t prefix = 0; prefix < 64; prefix++) {
         make_prefix(making, prefix << 24, 8);
         for (uint32_t peer = 1; peer <= 16; peer++) {
-            make_route(making, 0, 1, 100, 0, 1, peer);
+            make_route(making, 0, 65536, 100, 0, 1, peer);
         }
     }
     make_end(making);
+}
+
+size_t longest_preference(const struct making *longest, size_t row) {
+    size_t first_prefix = longest->length - 5 - 64 * (6 + 16 * 26);
+    return first_prefix + 6 + 26 * row + 9;
 }
 
 bool begins(const uint8_t *out, size_t out_len, const uint8_t *wanted, size_t length) {

@@ -31,6 +31,13 @@ bool holds(const uint8_t *area, size_t area_len, const uint16_t *rows, size_t ro
 extern const uint8_t p5[P5_LENGTH];
 extern const uint16_t p5_rows[2 * 3];
 
+/* P5 with its row 0 of kind 7, which has four bytes of AS, and the rows where that AS is not the one of row 3: row 0
+ * no longer contests row 3, so router 1 holds row 3; that leaves row 1 in, which router 0 holds; and router 2 is nearer
+ * to router 0. */
+#define LONG_P5_LENGTH (P5_LENGTH + 2)
+void make_long_p5(uint8_t bytes[LONG_P5_LENGTH], uint32_t neighbour_as);
+extern const uint16_t settled_rows[2 * 3];
+
 /* A snapshot on its way, with room for some bytes more than the longest has. */
 struct making {
     uint8_t bytes[BARRIEROSE_LONGEST + 1000];
@@ -42,15 +49,18 @@ struct making {
 void make_network(struct making *making, uint8_t routers);
 void make_prefix(struct making *making, uint32_t address, uint8_t length);
 
-/* Path 2, origin 0, MED present. */
-void make_route(struct making *making, uint8_t router, uint16_t neighbour_as, uint32_t preference, uint32_t med,
+/* Path 2, origin 0, MED present; of kind 7 where the AS needs four bytes. */
+void make_route(struct making *making, uint8_t router, uint32_t neighbour_as, uint32_t preference, uint32_t med,
                 uint32_t neighbour_id, uint32_t peer);
 
 /* The end record, with the right number. */
 void make_end(struct making *making);
 
-/* The longest snapshot: 64 routers, 64 prefixes, 16 equal routes in each, all at router 0. */
+/* The longest snapshot: 64 routers, 64 prefixes, 16 equal routes of kind 7 in each, all at router 0. */
 void make_longest(struct making *making);
+
+/* Where the preference of a row of its first prefix ends. */
+size_t longest_preference(const struct making *longest, size_t row);
 
 /* Applies a policy with an output of out_len bytes and checks that the number is the one wanted and no byte changed. */
 void policy_refused(const char *what, const uint8_t *snapshot, size_t length, const uint8_t *policy, size_t policy_len,

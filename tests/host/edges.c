@@ -101,6 +101,15 @@ static void p5_cut_everywhere(void) {
     }
 }
 
+static void kind_7_cut_everywhere(void) {
+    uint8_t bytes[LONG_P5_LENGTH];
+    make_long_p5(bytes, 65536);
+    ask_at_all_edges((struct asked){"P5 with kind 7", bytes, LONG_P5_LENGTH, 256, 0, settled_rows, 3});
+    for (size_t length = 68; length < LONG_P5_LENGTH; length++) {
+        ask_at_all_edges((struct asked){"P5 with kind 7, cut short", bytes, length, 256, 102, NULL, 0});
+    }
+}
+
 /* The last byte that is looked at decides that there is one too many. */
 static void p5_followed(void) {
     uint8_t bytes[P5_LENGTH + 2] = {0};
@@ -185,8 +194,8 @@ static void the_longest_policy(void) {
     make_longest(&making);
     make_longest(&rewritten);
     make_longest_policy(&making_policy);
-    for (uint32_t row = 0; row < 16; row++) {
-        rewritten.bytes[making.length - 5 - 64 * (6 + 16 * 24) + 6 + 24 * row + 7] = (uint8_t)(row + 1);
+    for (size_t row = 0; row < 16; row++) {
+        rewritten.bytes[longest_preference(&rewritten, row)] = (uint8_t)(row + 1);
     }
     size_t length = making.length, policy_len = making_policy.length;
     apply_at_all_edges((struct asked_policy){"the longest policy", making.bytes, length, making_policy.bytes,
@@ -207,6 +216,7 @@ int main(void) {
     }
     p5_in_areas_about_the_limit();
     p5_cut_everywhere();
+    kind_7_cut_everywhere();
     p5_followed();
     the_longest();
     policies_in_outputs_about_the_limit();

@@ -88,13 +88,31 @@ static void clauses_that_fit(void) {
     on_four("other sessions", (const uint8_t[4]){100, 100, 100, 100}, none);
 }
 
+/* P5's row 0 as a direct path of kind 7. A clause for its AS fits it; those for ASes alike in some bytes do not. */
+static void a_clause_for_an_as_of_four_bytes(void) {
+    static const uint32_t others[] = {1, 65535, 65537, 131072 + 1, 16777216 + 65537};
+    uint8_t bytes[LONG_P5_LENGTH], wanted[LONG_P5_LENGTH];
+    make_long_p5(bytes, 65537);
+    bytes[79] = 1;
+    memcpy(wanted, bytes, sizeof wanted);
+    for (size_t number = 0; number < sizeof others / sizeof *others; number++) {
+        make_policy(&making);
+        make_session(&making, 0, 0xc0000201);
+        make_as_clause(&making, others[number], 150);
+        make_end(&making);
+        wanted[77] = others[number] == 65537 ? 150 : 100;
+        policy_applied("a clause and an AS of four bytes", bytes, sizeof bytes, making.bytes, making.length,
+                       sizeof bytes, wanted);
+    }
+}
+
 /* Of the first prefix each route gets its peer as its preference; all others get 100, which they have. */
 static void the_longest(void) {
     static struct making longest, wanted;
     make_longest(&longest);
     make_longest(&wanted);
     for (size_t row = 0; row < 16; row++) {
-        wanted.bytes[wanted.length - 5 - 64 * (6 + 16 * 24) + 6 + 24 * row + 7] = (uint8_t)(row + 1);
+        wanted.bytes[longest_preference(&wanted, row)] = (uint8_t)(row + 1);
     }
     make_longest_policy(&making);
     check(making.length == LONGEST_POLICY, "the longest policy has 20,933 bytes");
@@ -233,6 +251,7 @@ int main(void) {
     the_worked_sample();
     without_sessions_every_route_gets_100();
     clauses_that_fit();
+    a_clause_for_an_as_of_four_bytes();
     the_longest();
     altered_policies();
     sessions_rise();

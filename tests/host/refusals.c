@@ -17,12 +17,16 @@ struct altered {
 
 static const struct altered altered_values[] = {
     {"kind 0 first", 0, 1, 0, 103},
-    {"kind 7 first", 0, 1, 7, 103},
+    {"kind 8 first", 0, 1, 8, 103},
     {"kind 255 first", 0, 1, 255, 103},
-    {"kind 7 among the ids", 8, 1, 7, 103},
+    {"kind 8 among the ids", 8, 1, 8, 103},
     {"kind 128 among the routes", 92, 1, 128, 103},
     {"an id first", 0, 1, 2, 104},
     {"the end first", 0, 1, 6, 104},
+    {"kind 7 first", 0, 1, 7, 104},
+    {"kind 7 where an id is due", 8, 1, 7, 104},
+    {"kind 7 where a distance is due", 20, 1, 7, 104},
+    {"kind 7 before the first prefix", 62, 1, 7, 104},
     {"a second number of routers", 2, 1, 1, 104},
     {"a distance where an id is due", 8, 1, 3, 104},
     {"an id where a distance is due", 20, 1, 2, 104},
@@ -46,6 +50,10 @@ static const struct altered altered_values[] = {
     {"prefix length 33", 67, 1, 33, 105},
     {"a route's router n", 141, 1, 3, 105},
     {"AS 0", 70, 2, 0, 105},
+    {"AS 1", 70, 2, 1, 0},
+    {"AS 23455", 70, 2, 23455, 0},
+    {"AS 23456", 70, 2, 23456, 105},
+    {"AS 23457", 70, 2, 23457, 0},
     {"AS 65,534", 70, 2, 65534, 0},
     {"AS 65,535", 70, 2, 65535, 105},
     {"path length 0", 76, 2, 0, 105},
@@ -69,10 +77,6 @@ static const struct altered altered_values[] = {
     {"an end that says 15 and a high bit", 165, 4, 0x8000000f, 109},
 };
 
-/* With AS 65,534, or put out in steps 2 or 3, row 0 no longer contests row 3: router 1 holds row 3, so that row 1
- * stays in and router 0 holds it. Router 2 is nearer to router 0. */
-static const uint16_t settled_rows[2 * 3] = {1, 1, 3, 3, 1, 1};
-
 static void alter(uint8_t *bytes, const struct altered *altered) {
     for (size_t place = 0; place < altered->width; place++) {
         bytes[altered->at + place] = (uint8_t)(altered->value >> (8 * (altered->width - 1 - place)));
@@ -88,9 +92,31 @@ static void values(void) {
         if (altered->wanted > 100) {
             refused(altered->what, bytes, P5_LENGTH, 0, 256, altered->wanted);
         } else {
+            /* With another AS, or put out in steps 2 or 3, row 0 no longer contests row 3. */
             const uint16_t *rows = altered->wanted == 0 ? settled_rows : p5_rows;
             answered(altered->what, bytes, P5_LENGTH, 0, 256, altered->wanted, rows, 3);
         }
+    }
+}
+
+/* P5's row 0 of kind 7: with too small an AS, with the last number, and with other fields out of their range. */
+static void values_of_kind_7(void) {
+    static const uint32_t no_ases[] = {0, 1, 23455, 23456, 23457, 65001, 65534, 65535, 4294967295u};
+    static const struct altered fields[] = {
+        {"kind 7: a router n", 69, 1, 3, 105},     {"kind 7: path length 0", 78, 2, 0, 105},
+        {"kind 7: origin 3", 80, 1, 3, 105},       {"kind 7: MED mark 2", 81, 1, 2, 105},
+        {"kind 7: neighbour id 0", 86, 4, 0, 105}, {"kind 7: peer 0", 90, 4, 0, 105},
+        {"kind 7: the peer behind it", 90, 4, 0xc0000202, 106},
+    };
+    uint8_t bytes[LONG_P5_LENGTH];
+    for (size_t number = 0; number < sizeof no_ases / sizeof *no_ases; number++) {
+        make_long_p5(bytes, no_ases[number]);
+        refused("kind 7 with what is no AS of four bytes", bytes, sizeof bytes, 0, 256, 105);
+    }
+    for (size_t number = 0; number < sizeof fields / sizeof *fields; number++) {
+        make_long_p5(bytes, 65536);
+        alter(bytes, &fields[number]);
+        refused(fields[number].what, bytes, sizeof bytes, 0, 256, fields[number].wanted);
     }
 }
 
@@ -151,6 +177,24 @@ static void make_routes(uint32_t prefixes, uint32_t routes) {
             make_route(&making, 0, 1, 100, 0, 1, route + 1);
         }
     }
+}
+
+/* Both kinds count together: 255 routes of kind 5, one of kind 7, and one more of either. */
+static void full_of_routes_of_both_kinds(void) {
+    static const uint32_t last_ases[] = {1, 65536};
+    for (size_t number = 0; number < sizeof last_ases / sizeof *last_ases; number++) {
+        make_routes(1, 255);
+        make_route(&making, 0, 65536, 100, 0, 1, 256);
+        size_t sound = making.length;
+        make_route(&making, 0, last_ases[number], 100, 0, 1, 257);
+        refused("257 routes of both kinds", making.bytes, making.length, 0, 256, 108);
+        refused("the kind byte of the 257th", making.bytes, sound + 1, 0, 256, 108);
+        refused("256 routes of both kinds and no end", making.bytes, sound, 0, 256, 102);
+    }
+    make_routes(4, 256);
+    make_prefix(&making, 4u << 24, 8);
+    make_route(&making, 0, 65536, 100, 0, 1, 1);
+    refused("1,025 routes, the last of kind 7", making.bytes, making.length, 0, 256, 108);
 }
 
 static void full_of_routes(void) {
@@ -216,11 +260,13 @@ static void the_header_has_these_numbers(void) {
 
 int main(void) {
     values();
+    values_of_kind_7();
     cut_short();
     a_prefix_that_does_not_rise();
     twins();
     full_of_prefixes();
     full_of_routes();
+    full_of_routes_of_both_kinds();
     followed();
     no_such_prefix();
     short_areas();

@@ -55,13 +55,12 @@ static void *calling(void *argument) {
 int main(void) {
     /* As P5; as P5; its row 0 with origin 2, which settles it; an end record that says 14. Their policies: the worked
      * sample; no sessions; the worked sample less a byte; and again the worked sample. */
-    static const uint16_t settled[2 * 3] = {1, 1, 3, 3, 1, 1};
     static struct caller callers[THREADS] = {
         {.wanted = 3, .rows = p5_rows, .routers = 3, .policy = worked, .policy_len = WORKED_LENGTH,
          .policy_wanted = 0, .rewritten = p5_rewritten},
         {.wanted = 3, .rows = p5_rows, .routers = 3, .policy = no_sessions, .policy_len = NO_SESSIONS_LENGTH,
          .policy_wanted = 0, .rewritten = p5},
-        {.wanted = 0, .rows = settled, .routers = 3, .policy = worked, .policy_len = WORKED_LENGTH - 1,
+        {.wanted = 0, .rows = settled_rows, .routers = 3, .policy = worked, .policy_len = WORKED_LENGTH - 1,
          .policy_wanted = 202},
         {.wanted = 109, .policy = worked, .policy_len = WORKED_LENGTH, .policy_wanted = 109},
     };

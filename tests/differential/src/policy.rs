@@ -26,7 +26,8 @@ fn call(snapshot: &[u8], policy: &[u8], out: &mut [u8]) -> u32 {
     unsafe { barrierose_policy(lent.0, lent.1, lent_policy.0, lent_policy.1, out.as_mut_ptr(), out.len()) }
 }
 
-/// A random snapshot with every other path direct, and a policy for it: small ones in turn, large ones now and then.
+/// A random snapshot with every other path direct, and a policy for it: small ones in turn, large ones now and then;
+/// half of all with ASes of both lengths.
 pub fn made(seed: u64) -> (String, Vec<u8>, Vec<u8>) {
     let (kind, policy_kind) = match seed % 40 {
         0 => ("sessions", "limits"),
@@ -36,7 +37,8 @@ pub fn made(seed: u64) -> (String, Vec<u8>, Vec<u8>) {
         4 => ("small", "limits"),
         _ => (["small", "open"][seed as usize % 2], "mixed"),
     };
-    let mut snapshot = random::random(seed, kind).expect("a kind");
+    let kind = format!("{}{kind}", ["", "mixed-"][(seed / 2 + seed / 40) as usize % 2]);
+    let mut snapshot = random::random(seed, &kind).expect("a kind");
     let routes = snapshot.prefixes.iter_mut().flat_map(|prefix| &mut prefix.routes);
     routes.step_by(2).for_each(|route| route.path = 1);
     let policy = policy::random::random(seed, policy_kind, &snapshot).expect("a kind");

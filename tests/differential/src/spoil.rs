@@ -7,13 +7,17 @@ use second::tables::*;
 /// Values at which a check may turn, or beyond what fits a byte or two.
 const VALUES: [u32; 15] = [0, 1, 2, 3, 32, 33, 64, 65, 256, 65_534, 65_535, 65_536, 16_777_215, 16_777_216, u32::MAX];
 
+/// Those of a neighbour AS.
+const AS_VALUES: [u32; 10] = [0, 1, 23_455, 23_456, 23_457, 65_534, 65_535, 65_536, u32::MAX - 1, u32::MAX];
+
 /// A way to spoil a question.
 pub type Spoil = fn(&mut Seeded, &mut Question);
 
 /// All ways, by name.
-pub const ALL: [(&str, Spoil); 14] = [
+pub const ALL: [(&str, Spoil); 15] = [
     ("a count", count),
     ("a used value", used_value),
+    ("a used AS", used_as),
     ("a used value near another", used_neighbour),
     ("an unused value", unused_value),
     ("an equal pair's distance", equal_pair),
@@ -77,6 +81,12 @@ fn used_value(seeded: &mut Seeded, question: &mut Question) {
     if let Some(entry) = some_used(seeded, question, table) {
         let value = question.lent[table][entry];
         question.lent[table][entry] = near(seeded, value);
+    }
+}
+
+fn used_as(seeded: &mut Seeded, question: &mut Question) {
+    if let Some(entry) = some_used(seeded, question, NEIGHBOUR_AS) {
+        question.lent[NEIGHBOUR_AS][entry] = seeded.pick(&AS_VALUES);
     }
 }
 

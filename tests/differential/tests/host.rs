@@ -2,6 +2,7 @@
 //! seeds or from every place of a small snapshot, so each run asks the same.
 
 use differential::host::{Tally, AREA};
+use differential::some_kind;
 use second::record::cut;
 use second::{damage, random, text, writer};
 
@@ -11,10 +12,12 @@ const DAMAGED: u64 = 20_000;
 /// The share of prefixes, of those asked for in open kinds of snapshots, that must be open: one in so many.
 const OPEN_SHARE: usize = 5;
 
-/// Two prefixes, one of them open, with routes of all three routers: the small snapshot that is damaged everywhere.
+/// Two prefixes, one of them open, with routes of all three routers and of both kinds: the small snapshot that is
+/// damaged everywhere.
 const SMALL: &str = "router 10.0.0.1 10.0.0.2 10.0.0.3\ndistance 0 1 4\ndistance 0 2 5\ndistance 1 to 2 9
 prefix 10.0.0.0/8\nroute 0 as 65001 med 0 id 2\nroute 0 as 65002 med 5 id 1\nroute 1 as 65002 med 0 id 2
-route 1 as 65001 med 5 id 1\nprefix 198.51.100.0/24\nroute 1 as 7 med absent\nroute 2 as 7 path 3 origin egp";
+route 1 as 65001 med 5 id 1\nprefix 198.51.100.0/24\nroute 1 as 7 med absent\nroute 1 as 65543 med 3
+route 2 as 7 path 3 origin egp\nroute 2 as 65543";
 
 fn small() -> Vec<u8> {
     text::make_from_sheet(SMALL).expect("the notation is sound").bytes
@@ -24,20 +27,17 @@ fn made(seed: u64, kind: &str) -> Vec<u8> {
     writer::write(&random::random(seed, kind).expect("a kind"))
 }
 
-/// Small kinds in turn, one of the large ones now and then.
-fn some_kind(seed: u64) -> &'static str {
-    let (small, large) = random::KINDS.split_at(2);
-    match seed % 20 {
-        0 => large[(seed / 20) as usize % large.len()],
-        _ => small[seed as usize % 2],
-    }
+/// A kind and its form with ASes of both lengths, in turn.
+fn in_turn(seed: u64, kind: &str) -> String {
+    format!("{}{kind}", ["", "mixed-"][seed as usize % 2])
 }
 
 #[test]
 fn random_snapshots() {
     let mut tally = Tally::default();
     for seed in 0..3000 {
-        tally.ask_all(&format!("random {seed} small"), &made(seed, "small"));
+        let kind = in_turn(seed, "small");
+        tally.ask_all(&format!("random {seed} {kind}"), &made(seed, &kind));
     }
     tally.say("small");
     assert!(tally.settled() > 2000 && tally.refusals() == 0 && tally.refused(12) == tally.inputs());
@@ -47,7 +47,8 @@ fn random_snapshots() {
 fn random_open_snapshots() {
     let mut tally = Tally::default();
     for seed in 0..3000 {
-        tally.ask_all(&format!("random {seed} open"), &made(seed, "open"));
+        let kind = in_turn(seed, "open");
+        tally.ask_all(&format!("random {seed} {kind}"), &made(seed, &kind));
     }
     tally.say("open");
     assert!(OPEN_SHARE * tally.open() >= tally.open() + tally.settled() && tally.refusals() == 0);
@@ -58,7 +59,8 @@ fn snapshots_at_the_limits() {
     let mut tally = Tally::default();
     for kind in &random::KINDS[2..] {
         for seed in 0..4 {
-            tally.ask_all(&format!("random {seed} {kind}"), &made(seed, kind));
+            let kind = in_turn(seed, kind);
+            tally.ask_all(&format!("random {seed} {kind}"), &made(seed, &kind));
         }
     }
     tally.say("at the limits");
@@ -69,7 +71,8 @@ fn snapshots_at_the_limits() {
 fn open_snapshots_at_the_limits() {
     let mut tally = Tally::default();
     for seed in 0..50 {
-        tally.ask_all(&format!("random {seed} wide"), &made(seed, "wide"));
+        let kind = in_turn(seed, "wide");
+        tally.ask_all(&format!("random {seed} {kind}"), &made(seed, &kind));
     }
     tally.say("open at the limits");
     assert!(OPEN_SHARE * tally.open() >= tally.open() + tally.settled() && tally.refusals() == 0);
@@ -113,8 +116,8 @@ fn every_byte_with_every_value() {
 /// Two and four bytes at every place, with values at which a range may end.
 #[test]
 fn every_place_with_values_at_the_ends_of_ranges() {
-    const TWO: [u16; 6] = [0, 1, 2, 65_533, 65_534, 65_535];
-    const FOUR: [u32; 8] = [0, 1, 15, 16, 17, 16_777_215, 16_777_216, u32::MAX];
+    const TWO: [u16; 7] = [0, 1, 2, 23_456, 65_533, 65_534, 65_535];
+    const FOUR: [u32; 12] = [0, 1, 15, 16, 17, 23_456, 65_535, 65_536, 16_777_215, 16_777_216, u32::MAX - 1, u32::MAX];
     let mut tally = Tally::default();
     let whole = small();
     let values =
@@ -163,7 +166,7 @@ fn damaged_copies() {
     let mut tally = Tally::default();
     for seed in 0..asked {
         let kind = some_kind(seed);
-        tally.ask_all(&format!("damage {seed} of random {seed} {kind}"), &damage::damage(&made(seed, kind), seed));
+        tally.ask_all(&format!("damage {seed} of random {seed} {kind}"), &damage::damage(&made(seed, &kind), seed));
     }
     tally.say("damaged copies");
     assert_eq!(tally.inputs(), asked as usize);

@@ -12,16 +12,17 @@ use second::snapshot::No;
 use second::tables::LIMITS;
 use second::text;
 
-/// Three routers, two prefixes, direct paths and longer ones, MEDs present and absent.
+/// Three routers, two prefixes, direct paths and longer ones, MEDs present and absent, routes of both kinds.
 const SNAPSHOT: &str = "router 10.0.0.1 10.0.0.2 10.0.0.3
 prefix 10.0.0.0/8\nroute 0 as 65001 path 1 med 5 peer 192.0.2.1\nroute 0 as 65002 med absent peer 192.0.2.2
 route 1 as 65001 path 1 peer 192.0.2.1 preference 300\nprefix 198.51.100.0/24
-route 0 as 65002 path 1 med 7 peer 192.0.2.2\nroute 1 as 65001 peer 192.0.2.1\nroute 2 as 7 peer 192.0.2.9";
+route 0 as 65002 path 1 med 7 peer 192.0.2.2\nroute 1 as 65001 peer 192.0.2.1\nroute 2 as 65543 path 1 peer 192.0.2.9";
 
 /// Sessions of all sorts, and every kind of clause.
 const POLICY: &str = "session 0 peer 192.0.2.1\nmed 0\nprefix 10.0.0.0/8 preference 200
 session 0 peer 192.0.2.2\nas 65002 preference 150\nall preference 90
-session 1 peer 192.0.2.1\nmed 0\nprefix 198.51.100.0/24 preference 110\nas 65001 preference 120\nsession 9 peer 1";
+session 1 peer 192.0.2.1\nmed 0\nprefix 198.51.100.0/24 preference 110\nas 65001 preference 120
+session 2 peer 192.0.2.9\nas 65543 preference 130\nsession 9 peer 1";
 
 fn small() -> Vec<u8> {
     text::make_from_sheet(SNAPSHOT).and_then(|made| made.judged()).expect("the notation is sound")

@@ -43,7 +43,8 @@ fn compare(what: &str, input: &[u8], piece: usize) {
 
 fn made(seed: u64) -> (String, Vec<u8>) {
     let kind = random::KINDS[seed as usize % random::KINDS.len()];
-    (format!("random {seed} {kind}"), writer::write(&random::random(seed, kind).expect("a kind")))
+    let kind = format!("{}{kind}", ["", "mixed-"][seed as usize % 2]);
+    (format!("random {seed} {kind}"), writer::write(&random::random(seed, &kind).expect("a kind")))
 }
 
 #[test]
@@ -74,11 +75,11 @@ fn inputs_in_small_pieces() {
 #[test]
 fn longer_than_the_longest() {
     let longest = writer::write(&random::random(1, "limits").expect("a kind"));
-    assert_eq!(longest.len(), 53_575);
+    assert_eq!(longest.len(), 55_623);
     for more in [1, 2, 1000, 100_000] {
         let input = [&longest[..], &vec![6; more]].concat();
         compare(&format!("{more} bytes more than the longest"), &input, input.len());
-        assert_eq!(printed(&input), "refused 10 53575\n");
+        assert_eq!(printed(&input), "refused 10 55623\n");
     }
 }
 

@@ -1,6 +1,7 @@
 //! The proved calls over lent tables against the second program: the numbers returned, and all that was lent. The
 //! tables are those of random snapshots, sound or spoilt, and the same in each run.
 
+use differential::some_kind;
 use differential::spoil::{self, Spoil};
 use differential::tables::{ask_read, unused, Question};
 use second::seed::Seeded;
@@ -12,14 +13,8 @@ use second::{damage, random, writer};
 const SPOILT: u64 = 20_000;
 const EACH: u64 = 1000;
 
-/// Small kinds in turn, one of the large ones now and then.
 fn some_snapshot(seed: u64) -> Snapshot {
-    let (small, large) = random::KINDS.split_at(2);
-    let kind = match seed % 20 {
-        0 => large[(seed / 20) as usize % large.len()],
-        _ => small[seed as usize % 2],
-    };
-    random::random(seed, kind).expect("a kind")
+    random::random(seed, &some_kind(seed)).expect("a kind")
 }
 
 /// How often writing and a forecast were refused as what; number 0 is an answer.
@@ -80,6 +75,7 @@ fn values_counts_and_order_spoilt_are_table_or_harmless() {
     for (name, table, harmless) in [
         ("a count", 900, 20),
         ("a used value", 250, 400),
+        ("a used AS", 200, 400),
         ("a used value near another", 100, 500),
         ("an equal pair's distance", 600, 50),
         ("two prefixes", 200, 400),
@@ -209,6 +205,30 @@ fn one_more_than_the_limit_is_table() {
         question.lent[table].push(first);
     }
     assert_eq!(question.ask_write("a 1,025th route"), Some(No::Table));
+}
+
+/// The AS of one route among both kinds at each of its borders.
+#[test]
+fn an_as_at_its_borders() {
+    let mut snapshot = random::random(1, "mixed-open").expect("a kind");
+    for (neighbour_as, refusal) in [
+        (0, Some(No::Table)),
+        (1, None),
+        (23_455, None),
+        (23_456, Some(No::Table)),
+        (23_457, None),
+        (65_534, None),
+        (65_535, Some(No::Table)),
+        (65_536, None),
+        (65_536 + 23_456, None),
+        (u32::MAX - 1, None),
+        (u32::MAX, Some(No::Table)),
+    ] {
+        snapshot.prefixes[0].routes[1].neighbour_as = neighbour_as;
+        let question = Question::of(&snapshot);
+        assert_eq!(question.ask_write(&format!("AS {neighbour_as}")), refusal);
+        assert_eq!(question.ask_forecast(&format!("AS {neighbour_as}")), refusal);
+    }
 }
 
 /// Three routes in all, if sums of 32 bits wrapped.
