@@ -22,7 +22,7 @@ extern "C" {
 #define BARRIEROSE_NONE 65535
 
 /* A snapshot has at most BARRIEROSE_LONGEST bytes. One byte more decides: what follows it changes no answer. */
-#define BARRIEROSE_LONGEST 53575
+#define BARRIEROSE_LONGEST 55623
 
 /* The same of a policy. */
 #define BARRIEROSE_LONGEST_POLICY 20933
@@ -42,9 +42,9 @@ extern "C" {
 enum {
     BARRIEROSE_ROOM = 101,     /* area_len is below BARRIEROSE_AREA, or out_len below snapshot_len */
     BARRIEROSE_CUT = 102,      /* the snapshot ends where a record is due, or within one; an empty one does */
-    BARRIEROSE_KIND = 103,     /* a record is due, and its first byte is not a kind from 1 to 6 */
+    BARRIEROSE_KIND = 103,     /* a record is due, and its first byte is not a kind from 1 to 7 */
     BARRIEROSE_PLACE = 104,    /* a record of a known kind stands where that kind may not stand */
-    BARRIEROSE_FIELD = 105,    /* a value is outside its range, or names a router that does not exist */
+    BARRIEROSE_FIELD = 105,    /* a value is outside its range, as AS 23456 is, or names a router that does not exist */
     BARRIEROSE_ORDER = 106,    /* a router, pair, prefix or route is not the one due, or does not rise */
     BARRIEROSE_TWIN = 107,     /* two routers have the same id */
     BARRIEROSE_FULL = 108,     /* a 65th prefix, a prefix's 257th route, or a 1,025th route in all */
@@ -89,7 +89,7 @@ enum {
  *
  * The call takes no memory from the heap, keeps nothing from one call to the next and has no global state, so any
  * number of threads may call it at once, each with its own area. It always returns. Its working tables are on the
- * stack of the calling thread and take less than 32 KB of it (31,272 bytes measured on x86-64; 29,096 where reading
+ * stack of the calling thread and take less than 32 KB of it (31,272 bytes measured on x86-64; 29,117 where reading
  * refuses the snapshot). In a program that binds the C library lazily, the dynamic linker takes about 3 KB more within
  * the first call.
  */
@@ -119,7 +119,7 @@ uint32_t barrierose_forecast(const uint8_t *snapshot, size_t snapshot_len, uint3
  *
  * The call takes no memory from the heap, keeps nothing from one call to the next and has no global state, so any
  * number of threads may call it at once, each with its own out. It always returns. Its working tables are on the stack
- * of the calling thread and take less than 60 KB of it (57,640 bytes measured on x86-64). In a program that binds the
+ * of the calling thread and take less than 60 KB of it (57,624 bytes measured on x86-64). In a program that binds the
  * C library lazily, the dynamic linker takes about 3 KB more within the first call.
  */
 uint32_t barrierose_policy(const uint8_t *snapshot, size_t snapshot_len, const uint8_t *policy, size_t policy_len,
