@@ -11,7 +11,7 @@ const BOUNDARIES: [u32; 17] =
     [0, 1, 2, 3, 32, 33, 63, 64, 65, 255, 23_456, 65_534, 65_535, 16_777_215, 16_777_216, u32::MAX - 1, u32::MAX];
 
 /// Those of a neighbour AS.
-const AS_BOUNDARIES: [u32; 10] = [0, 1, 23_455, 23_456, 23_457, 65_534, 65_535, 65_536, u32::MAX - 1, u32::MAX];
+pub const AS_BOUNDARIES: [u32; 10] = [0, 1, 23_455, 23_456, 23_457, 65_534, 65_535, 65_536, u32::MAX - 1, u32::MAX];
 
 /// How long the records of routes are, by their kind.
 const SHORT_ROUTE: (u8, usize) = (5, 24);

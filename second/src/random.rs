@@ -8,6 +8,18 @@ use std::collections::{BTreeMap, BTreeSet};
 pub const KINDS: [&str; 9] =
     ["small", "open", "wide", "typical", "tied", "limits", "chain-early", "chain-late", "sessions"];
 
+/// A kind of random snapshots: small kinds in turn, one of the large ones now and then; half of all with ASes of both
+/// lengths.
+pub fn some_kind(seed: u64) -> String {
+    let (small, large) = KINDS.split_at(2);
+    let kind = match seed % 20 {
+        0 => large[(seed / 20) as usize % large.len()],
+        _ => small[seed as usize % 2],
+    };
+    let form = ["", "mixed-"][(seed / 2 + seed / 20) as usize % 2];
+    format!("{form}{kind}")
+}
+
 /// The last AS that two bytes hold.
 const LAST_SHORT_AS: u32 = 65_534;
 

@@ -13,15 +13,8 @@ fn snapshot(seed: u64, kind: &str) -> Snapshot {
     random::random(seed, kind).expect("a kind")
 }
 
-/// Kinds in turn, the large ones more seldom; half of all with ASes of both lengths.
 fn some_snapshot(seed: u64) -> Snapshot {
-    let kind = if seed.is_multiple_of(20) {
-        random::KINDS[2 + (seed / 20) as usize % 7]
-    } else {
-        random::KINDS[seed as usize % 2]
-    };
-    let form = ["", "mixed-"][(seed / 2 + seed / 20) as usize % 2];
-    snapshot(seed, &format!("{form}{kind}"))
+    snapshot(seed, &random::some_kind(seed))
 }
 
 fn printed(input: &[u8]) -> String {

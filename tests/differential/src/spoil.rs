@@ -1,14 +1,12 @@
 //! Sound tables spoilt in one way or several: counts, used and unused entries, order, sums, and lengths of what is lent.
 
 use crate::tables::Question;
+use second::damage::AS_BOUNDARIES;
 use second::seed::Seeded;
 use second::tables::*;
 
 /// Values at which a check may turn, or beyond what fits a byte or two.
 const VALUES: [u32; 15] = [0, 1, 2, 3, 32, 33, 64, 65, 256, 65_534, 65_535, 65_536, 16_777_215, 16_777_216, u32::MAX];
-
-/// Those of a neighbour AS.
-const AS_VALUES: [u32; 10] = [0, 1, 23_455, 23_456, 23_457, 65_534, 65_535, 65_536, u32::MAX - 1, u32::MAX];
 
 /// A way to spoil a question.
 pub type Spoil = fn(&mut Seeded, &mut Question);
@@ -86,7 +84,7 @@ fn used_value(seeded: &mut Seeded, question: &mut Question) {
 
 fn used_as(seeded: &mut Seeded, question: &mut Question) {
     if let Some(entry) = some_used(seeded, question, NEIGHBOUR_AS) {
-        question.lent[NEIGHBOUR_AS][entry] = seeded.pick(&AS_VALUES);
+        question.lent[NEIGHBOUR_AS][entry] = seeded.pick(&AS_BOUNDARIES);
     }
 }
 

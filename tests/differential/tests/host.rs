@@ -2,7 +2,6 @@
 //! seeds or from every place of a small snapshot, so each run asks the same.
 
 use differential::host::{Tally, AREA};
-use differential::some_kind;
 use second::record::cut;
 use second::{damage, random, text, writer};
 
@@ -165,7 +164,7 @@ fn damaged_copies() {
     let asked = std::env::var("BARRIEROSE_DAMAGED").map_or(DAMAGED, |number| number.parse().expect("a number"));
     let mut tally = Tally::default();
     for seed in 0..asked {
-        let kind = some_kind(seed);
+        let kind = random::some_kind(seed);
         tally.ask_all(&format!("damage {seed} of random {seed} {kind}"), &damage::damage(&made(seed, &kind), seed));
     }
     tally.say("damaged copies");

@@ -1,7 +1,6 @@
 //! The proved calls over lent tables against the second program: the numbers returned, and all that was lent. The
 //! tables are those of random snapshots, sound or spoilt, and the same in each run.
 
-use differential::some_kind;
 use differential::spoil::{self, Spoil};
 use differential::tables::{ask_read, unused, Question};
 use second::seed::Seeded;
@@ -14,7 +13,7 @@ const SPOILT: u64 = 20_000;
 const EACH: u64 = 1000;
 
 fn some_snapshot(seed: u64) -> Snapshot {
-    random::random(seed, &some_kind(seed)).expect("a kind")
+    random::random(seed, &random::some_kind(seed)).expect("a kind")
 }
 
 /// How often writing and a forecast were refused as what; number 0 is an answer.
