@@ -1,5 +1,6 @@
 // A policy applied to lent tables: the preference, mark and MED of their routes are rewritten in place, or nothing is and it is refused by
 // number and place.
+#![tactic(auto)]
 ghost use Rattle.std.specs.Prelude.{T};
 ghost use Rattle.model.specs.Lent.{was, is};
 ghost use Rattle.snapshot.specs.Ranges.{none};
@@ -13,7 +14,7 @@ use snapshot::Counts;
 use tables::Verdict;
 
 // The answer to a policy: the routes are rewritten, or a refusal with its place.
-#[derive(Drop)]
+#[derive(Clone, Copy)]
 pub enum Applied {
     Rewritten,
     Refused(Refusal, usize),

@@ -1,5 +1,6 @@
 // The program: a snapshot and a policy from two files, the rewritten snapshot to standard output. A refusal, and whatever else goes wrong,
 // is said on standard error, and nothing is written to standard output.
+#![tactic(auto)]
 ghost use Rattle.std.specs.Prelude.{◌≤◌, length};
 
 use refusal::Refusal;
@@ -14,7 +15,7 @@ const POLICY: usize = 20934;
 const LINE: usize = 64;
 
 // What was read of a file: so many bytes; or it could not be read, and that was said.
-#[derive(Drop)]
+#[derive(Clone, Copy)]
 enum Got {
     Bytes(usize),
     Nothing,

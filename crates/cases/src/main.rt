@@ -4,6 +4,7 @@
 //
 // tests/cases makes the files, from texts in the notation of `second`. What the program has to print, its `stdout`, was written by hand
 // from document 01, and tests/cases holds it against what `second` says of the files.
+#![tactic(auto)]
 ghost use Rattle.std.specs.Prelude.{◌≡◌, ◌++◌, suc, ◌+◌, ◌≤◌, length};
 ghost use Rattle.model.specs.Lent.{was, is};
 ghost use Rattle.snapshot.specs.Limits.{most_routes, longest};
@@ -21,7 +22,7 @@ use text::{put_decimal, put_text};
 use writer::Write;
 
 // What is found of a file: its counts and whether it was written as the same bytes again, or a refusal with its place.
-#[derive(Drop)]
+#[derive(Clone, Copy)]
 enum Finding {
     Accepted(Counts, bool),
     Refused(Refusal, usize),

@@ -1,4 +1,5 @@
 // Choosing among what is available: the eight steps of document 01, over lent columns, one function a step and in its order.
+#![tactic(auto)]
 ghost use Rattle.std.specs.Prelude.{◌≡◌, cond, ◌||◌, ℕ, ◌+◌, ◌*◌, ◌≤◌, ◌<◌, length, get_or, eqb};
 ghost use Rattle.model.specs.Rows.{keep, some, span, column, keep_least, keep_greatest};
 ghost use Rattle.model.specs.Decision.{none, beats_by, unbeaten_by};
@@ -6,7 +7,7 @@ ghost use Rattle.model.specs.Lent.{was, is, col, Inside, Front, Packed, after_tw
 ghost use Rattle.model.specs.Columns.{most_routers, most_rows, columns, choice_of, distance_in, Placed};
 
 // The row that a router chooses, or none.
-#[derive(Drop)]
+#[derive(Clone, Copy)]
 pub struct Chosen {
     pub row: u16,
 }

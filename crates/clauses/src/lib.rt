@@ -1,4 +1,5 @@
 // A policy file that was judged sound is walked again to apply it: its sessions, their clauses taken apart, and the first that fits.
+#![tactic(auto)]
 ghost use Rattle.std.specs.Prelude.{◌≡◌, true, ◌+◌, ◌≤◌, length, take};
 ghost use Rattle.model.specs.Lent.{was, is};
 ghost use Rattle.policy.specs.Policy.{most_clauses};
@@ -6,7 +7,7 @@ ghost use Rattle.policy.specs.Rewriting.{fits, preferred};
 ghost use Rattle.clauses.specs.Walking.{clause_at, size_at, length_at, is_clause, clauses_from, behind_clauses, clause_by, apart, Wide, is_session, named_at, Parts, Apart};
 
 // A session's name, whether MED is set to 0 on it, and where its first clause stands.
-#[derive(Drop)]
+#[derive(Clone, Copy)]
 pub struct Named {
     pub router: u32,
     pub peer: u32,
@@ -15,7 +16,7 @@ pub struct Named {
 }
 
 // A clause taken apart: its kind, its address or AS, its prefix length, and the preference that it gives.
-#[derive(Drop)]
+#[derive(Clone, Copy)]
 struct Row {
     kind: u32,
     key: u32,

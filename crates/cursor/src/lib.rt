@@ -1,6 +1,7 @@
 // The reader's place in a snapshot. A cursor is passed by value; each of its methods judges the record at its place as one kind of
 // record and hands back the next cursor with what the record says, or a refusal with its place. `opens` and `ends` serve every file of
 // this record habit: they go by the body that the file's own table of kinds gives.
+#![tactic(auto)]
 ghost use Rattle.std.specs.Prelude.{◌≡◌, cond, [], ◌∷◌, ◌+◌, ◌≤◌, eqb, length, get_or, drop};
 ghost use Rattle.model.specs.Rows.{some};
 ghost use Rattle.snapshot.specs.Plain.{route_is};
@@ -45,28 +46,28 @@ use snapshot::Route;
 const BEHIND_ASN: usize = 20;
 
 // What a list of checks finds: nothing, or the refusal of the first that fails.
-#[derive(Drop)]
+#[derive(Clone, Copy)]
 pub enum Finding {
     Clear,
     Fault(Refusal),
 }
 
 // The length of a body, or the refusal of its kind.
-#[derive(Drop)]
+#[derive(Clone, Copy)]
 pub enum Body {
     Bytes(usize),
     Refused(Refusal),
 }
 
 // A place between records, and how many records stand before it.
-#[derive(Drop)]
+#[derive(Clone, Copy)]
 pub struct Cursor {
     pub at: usize,
     pub records: usize,
 }
 
 // What the prefixes and routes read so far say about the next: how many there are, the latest prefix, and the latest route in it.
-#[derive(Drop)]
+#[derive(Clone, Copy)]
 pub struct Sofar {
     pub routers: u32,
     pub prefixes: u32,
@@ -79,32 +80,32 @@ pub struct Sofar {
 }
 
 // A prefix without its routes.
-#[derive(Drop)]
+#[derive(Clone, Copy)]
 pub struct Network {
     pub address: u32,
     pub bits: u32,
 }
 
 // The answer to a record that says one number: a count of routers, a router's id, a distance.
-#[derive(Drop)]
+#[derive(Clone, Copy)]
 pub enum Step {
     Took(Cursor, u32),
     Refused(Refusal, usize),
 }
 
-#[derive(Drop)]
+#[derive(Clone, Copy)]
 pub enum PrefixStep {
     Took(Cursor, Network),
     Refused(Refusal, usize),
 }
 
-#[derive(Drop)]
+#[derive(Clone, Copy)]
 pub enum RouteStep {
     Took(Cursor, Route),
     Refused(Refusal, usize),
 }
 
-#[derive(Drop)]
+#[derive(Clone, Copy)]
 pub enum EndStep {
     Ended,
     Refused(Refusal, usize),

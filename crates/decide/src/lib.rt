@@ -1,11 +1,12 @@
 // One prefix decided on lent columns: each router's early and late row, and which routers differ.
+#![tactic(auto)]
 ghost use Rattle.std.specs.Prelude.{◌≡◌, length};
 ghost use Rattle.model.specs.Columns.{columns, lent_mesh, Placed};
 ghost use Rattle.model.specs.Lent.{was, is};
 ghost use Rattle.decide.specs.Decide.{Decided};
 
 // The routers whose early and late rows differ: bit r for router r, and how many there are.
-#[derive(Drop)]
+#[derive(Clone, Copy)]
 pub struct Differing {
     pub word: u64,
     pub number: u32,

@@ -1,4 +1,5 @@
 // The program: a snapshot from standard input, its printed forecast to standard output.
+#![tactic(auto)]
 use page::Rendered;
 
 // What is read at most: one byte more than the longest snapshot, since so many decide the answer.

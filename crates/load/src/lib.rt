@@ -1,4 +1,5 @@
 // The forecast of one prefix from the bytes of a snapshot: only what that prefix is decided on is put into tables.
+#![tactic(auto)]
 ghost use Rattle.std.specs.Prelude.{◌≡◌, ◌≤◌, length};
 ghost use Rattle.model.specs.Lent.{was, is};
 ghost use Rattle.snapshot.specs.Limits.{most_in_prefix};

@@ -1,4 +1,5 @@
 // The library's calls as the benchmarks make them: with numbers in place of enums, so that a C caller can take them.
+#![tactic(auto)]
 ghost use Rattle.std.specs.Prelude.{◌≡◌};
 ghost use Rattle.model.specs.Lent.{was, is};
 ghost use Rattle.snapshot.specs.Tables.{tables, columns};

@@ -1,4 +1,5 @@
 // The forecast of one prefix over lent tables: each router's early and late row, and which routers differ.
+#![tactic(auto)]
 ghost use Rattle.std.specs.Prelude.{◌≡◌, ◌-◌, ◌≤◌, length};
 ghost use Rattle.model.specs.Columns.{columns, lent_mesh};
 ghost use Rattle.model.specs.Lent.{was, is};
@@ -13,7 +14,7 @@ use snapshot::Counts;
 use tables::Verdict;
 
 // What a forecast answers: the routers that differ (settled exactly when there are none), or a refusal with its place.
-#[derive(Drop)]
+#[derive(Clone, Copy)]
 pub enum Outlook {
     Forecast(Differing),
     Refused(Refusal, usize),

@@ -1,4 +1,5 @@
 // The printed forecast of a snapshot's bytes, put into a lent buffer.
+#![tactic(auto)]
 ghost use Rattle.std.specs.Prelude.{◌≡◌, ◌+◌, ◌-◌, ◌*◌, ◌≤◌, ◌<◌, length, get_or};
 ghost use Rattle.model.specs.Rows.{span};
 ghost use Rattle.model.specs.Decision.{none};
@@ -180,7 +181,7 @@ fn put_read(
 }
 
 // What rendering answers: how many bytes the page has, or a refusal with its place.
-#[derive(Drop)]
+#[derive(Clone, Copy)]
 pub enum Rendered {
     Text(usize),
     Refused(Refusal, usize),

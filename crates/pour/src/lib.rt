@@ -1,4 +1,5 @@
 // The second pass over a snapshot, its loops over routes and prefixes: what was judged sound is put into the lent tables.
+#![tactic(auto)]
 ghost use Rattle.std.specs.Prelude.{◌≡◌, ◌+◌, ◌-◌, ◌≤◌, length};
 ghost use Rattle.model.specs.Lent.{was, is};
 ghost use Rattle.snapshot.specs.Limits.{most_prefixes};
@@ -6,7 +7,7 @@ ghost use Rattle.snapshot.specs.Tables.{columns, tables, put_routes, Wide, Room}
 ghost use Rattle.fill.specs.Fill.{Spans, routes_from, behind_routes, prefixes_from, lists, put_prefixes, filled_from, WideLists};
 
 // Where routes end: the row and the place behind the last.
-#[derive(Drop)]
+#[derive(Clone, Copy)]
 pub struct End {
     pub row: usize,
     pub at: usize,

@@ -1,4 +1,5 @@
 // Reading a snapshot: from bytes to the lent tables, or a refusal by number and place with nothing altered.
+#![tactic(auto)]
 ghost use Rattle.std.specs.Prelude.{◌≡◌};
 ghost use Rattle.model.specs.Lent.{was, is};
 ghost use Rattle.snapshot.specs.Tables.{columns, tables};

@@ -2,10 +2,11 @@
 //
 // A rule for every answer of this project that is an enum: a definition in specs/ gives document 01's number and values for each
 // case, as a `Said`, and promises are written with that definition. Here it is `number_of`.
+#![tactic(auto)]
 ghost use Rattle.std.specs.Prelude.{◌≡◌};
 ghost use Rattle.refusal.specs.Numbers.{number_of};
 
-#[derive(Drop)]
+#[derive(Clone, Copy)]
 pub enum Refusal {
     Room,
     Cut,

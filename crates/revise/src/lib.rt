@@ -1,4 +1,5 @@
 // A policy applied to a snapshot, from bytes to bytes.
+#![tactic(auto)]
 ghost use Rattle.std.specs.Prelude.{◌≡◌};
 ghost use Rattle.model.specs.Lent.{was, is};
 ghost use Rattle.snapshot.specs.Tables.{columns, tables};
@@ -11,7 +12,7 @@ use snapshot::Counts;
 use writer::Write;
 
 // The answer: rewritten, or which of the two is refused, with number and place.
-#[derive(Drop)]
+#[derive(Clone, Copy)]
 pub enum Revised {
     Rewritten,
     SnapshotRefused(Refusal, usize),

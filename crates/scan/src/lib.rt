@@ -1,4 +1,5 @@
 // The first pass over a snapshot: the whole input is judged, section by section, and no table is touched.
+#![tactic(auto)]
 ghost use Rattle.std.specs.Prelude.{◌≡◌, ◌+◌, ◌<◌, ◌≢◌, [], not, T, get_or};
 ghost use Rattle.snapshot.specs.Records.{route_forms, stands};
 ghost use Rattle.snapshot.specs.Limits.{most_prefixes, most_in_prefix, most_routes};
@@ -11,21 +12,21 @@ use refusal::Refusal;
 use snapshot::{Counts, Route};
 
 // The answer to a snapshot: its counts, or a refusal with its place.
-#[derive(Drop)]
+#[derive(Clone, Copy)]
 pub enum Read {
     Accepted(Counts),
     Refused(Refusal, usize),
 }
 
 // The end of a section: the cursor behind it, or a refusal with its place.
-#[derive(Drop)]
+#[derive(Clone, Copy)]
 enum Section {
     Done(Cursor),
     Refused(Refusal, usize),
 }
 
 // What follows a record of the last section: the next one, or the answer.
-#[derive(Drop)]
+#[derive(Clone, Copy)]
 enum Item {
     Next(Cursor, Sofar),
     Over(Read),

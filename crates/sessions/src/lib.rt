@@ -1,4 +1,5 @@
 // One pass over a policy file: the whole input is judged, record by record, and of what was read only the latest session is kept.
+#![tactic(auto)]
 ghost use Rattle.std.specs.Prelude.{◌≡◌, not, [], ◌∷◌, ◌+◌, ◌≤◌, ◌<◌, length, get_or};
 ghost use Rattle.refusal.specs.declared.Refusal.TheVariants.{Field};
 ghost use Rattle.snapshot.specs.Format.{◌else◌};
@@ -11,7 +12,7 @@ use cursor::{Body, Cursor, EndStep, Finding};
 use refusal::Refusal;
 
 // The answer to a policy file: accepted, or a refusal with its place.
-#[derive(Drop)]
+#[derive(Clone, Copy)]
 pub enum Judged {
     Accepted,
     Refused(Refusal, usize),
@@ -19,7 +20,7 @@ pub enum Judged {
 
 // What was read so far says about the next record: the number of sessions, and of the latest its router, its peer address, whether
 // nothing but its name was read, and the number of its clauses.
-#[derive(Drop)]
+#[derive(Clone, Copy)]
 struct Latest {
     sessions: u32,
     router: u32,
@@ -29,7 +30,7 @@ struct Latest {
 }
 
 // What follows a record: the next one, or the answer.
-#[derive(Drop)]
+#[derive(Clone, Copy)]
 enum Item {
     Next(Cursor, Latest),
     Over(Judged),

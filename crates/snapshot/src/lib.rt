@@ -1,5 +1,6 @@
 // The snapshot: its definitions and theorems (open specs/Theorems.antt first), its limits, the sizes of its records, and the tests
 // of its ranges and of the tables' room, which reading and the judging of tables share.
+#![tactic(auto)]
 ghost use Rattle.std.specs.Prelude.{◌≡◌, not};
 ghost use Rattle.snapshot.specs.Ranges.{any_of, count_tests, id_tests, distance_tests, prefix_tests, asn_tests, route_tests, rises};
 ghost use Rattle.snapshot.specs.Records.{four_byte, route_form_by, route_forms, stands, size};
@@ -52,7 +53,7 @@ pub const FOUR_BYTE_ROUTE_SIZE: usize = 26;
 pub const END_SIZE: usize = 5;
 
 // How many of each the tables hold.
-#[derive(Drop)]
+#[derive(Clone, Copy)]
 pub struct Counts {
     pub routers: u32,
     pub prefixes: u32,
@@ -60,7 +61,7 @@ pub struct Counts {
 }
 
 // A route: its router, neighbour AS, local preference, path length, origin, MED mark, MED, neighbour id and peer address.
-#[derive(Drop)]
+#[derive(Clone, Copy)]
 pub struct Route {
     pub router: u32,
     pub asn: u32,

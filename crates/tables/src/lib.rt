@@ -1,5 +1,6 @@
 // Judging tables: whether counts and lent tables are those of some snapshot (TABLE). One function for each part of the tables; the
 // tests of values are those of crate snapshot, as in reading.
+#![tactic(auto)]
 ghost use Rattle.std.specs.Prelude.{◌≡◌, ◌+◌, ◌≤◌, ◌<◌, length, eqb, ltb};
 ghost use Rattle.model.specs.Rows.{some, table, column, start};
 ghost use Rattle.model.specs.Lent.{was, col};
@@ -9,7 +10,7 @@ ghost use Rattle.snapshot.specs.Tables.{columns, tables, prefix_tables, RoomPref
 ghost use Rattle.tables.specs.Judging.{route_at, late_at, IdGood, CellGood, RouteGood, PrefixGood, Below, InRange, Totalled, Decides, Judged, numbered, Verdicts};
 
 // What is found of counts and tables: they hold a snapshot, or a refusal.
-#[derive(Drop)]
+#[derive(Clone, Copy)]
 pub enum Verdict {
     Good,
     Refused(refusal::Refusal),

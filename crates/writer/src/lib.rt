@@ -1,4 +1,5 @@
 // Writing a snapshot from lent tables. One function for each section of the format puts its bytes and returns the next place.
+#![tactic(auto)]
 ghost use Rattle.std.specs.Prelude.{◌≡◌, ◌+◌, ◌*◌, ◌-◌, ◌≤◌, ◌<◌, length, T};
 ghost use Rattle.model.specs.Rows.{table, column, start};
 ghost use Rattle.model.specs.Lent.{was, is, col};
@@ -16,7 +17,7 @@ use snapshot::Counts;
 use tables::Verdict;
 
 // The answer to a call that writes: the number of bytes, or a refusal with its place.
-#[derive(Drop)]
+#[derive(Clone, Copy)]
 pub enum Write {
     Written(usize),
     Refused(Refusal, usize),
