@@ -54,8 +54,8 @@ returns-2 c =
     let s = start_of j in
     applies_done s.args.counts (lent s) s.args.policy.now s.pre.0 s.pre.1 (bytes j) e.enum_told.given.1 j.judge.ensures a.apply.ensures
 
-pub apply-held-spec : {M : Type 1} → statement M
-apply-held-spec =
+pub apply_held_spec : {M : Type 1} → statement M
+apply_held_spec =
     tie.close
     (tie.spec
     (λ c κs. search rules)

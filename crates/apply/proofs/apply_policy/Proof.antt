@@ -32,8 +32,8 @@ returns c =
     let start = start_of seen in
     applies_no start.args.counts (lent start) start.args.policy.now bound.r.given.1 seen.examine.ensures
 
-pub apply-policy-spec : {M : Type 1} → statement M
-apply-policy-spec =
+pub apply_policy_spec : {M : Type 1} → statement M
+apply_policy_spec =
     tie.close
     (tie.spec
     (λ c κs. search rules)

@@ -4,8 +4,8 @@ use borrow.Author.Rules.{rules}
 use Rattle.apply_policy.proofs.print.Statement.{statement}
 use Rattle.apply_policy.proofs.print.Tie as tie
 
-pub print-spec : {M : Type 1} → statement M
-print-spec =
+pub print_spec : {M : Type 1} → statement M
+print_spec =
     tie.close
     (tie.spec
     (λ c κs. search rules)

@@ -4,8 +4,8 @@ use borrow.Author.Rules.{rules}
 use Rattle.apply_policy.proofs.say_refused.Statement.{statement}
 use Rattle.apply_policy.proofs.say_refused.Tie as tie
 
-pub say-refused-spec : {M : Type 1} → statement M
-say-refused-spec =
+pub say_refused_spec : {M : Type 1} → statement M
+say_refused_spec =
     tie.close
     (tie.spec
     (λ c. search rules)

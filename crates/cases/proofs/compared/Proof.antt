@@ -26,6 +26,6 @@ returns-2 c =
     let wrote : tie.After-written-as = search rules in
     same_found wrote.written_as.ensures (begun (told wrote)).requires.1 (told wrote).read2.given.1
 
-pub compared-spec : {M : Type 1} → statement M
-compared-spec =
+pub compared_spec : {M : Type 1} → statement M
+compared_spec =
     tie.close (tie.spec (λ c. search rules) (λ c. search rules) written-as-requires returns (λ c. search rules) returns-2)

@@ -40,8 +40,8 @@ same_length c =
     let told : tie.After-compared = search rules in
     (done-of told).read-snapshot.kept.1.1.1.1.1.1.1.1.1.1.1.1.1.1.0
 
-pub examined-spec : {M : Type 1} → statement M
-examined-spec =
+pub examined_spec : {M : Type 1} → statement M
+examined_spec =
     tie.close (tie.spec
     (λ c. refl) (λ c. refl) (λ c. refl) (λ c. refl) (λ c. refl) (λ c. refl) (λ c. refl) (λ c. refl) (λ c. refl) (λ c. refl) (λ c. refl) (λ c. refl) (λ c. refl)
     (λ c κs. search rules)

@@ -36,6 +36,6 @@ returns-2 c =
     let t = last.put-text3.ensures in
     (puts_then (puts_then (puts_then (puts_then p q.0) r.0) s.0) (puts_as t (ap likeness (sym said.if1.left))), omega (arith, p.place, q.1, r.1, s.1, t.place))
 
-pub put-accepted-spec : {M : Type 1} → statement M
-put-accepted-spec =
+pub put_accepted_spec : {M : Type 1} → statement M
+put_accepted_spec =
     tie.close (tie.spec (λ c. search rules) (λ c κs. search rules) (λ c κs. search rules) (λ c κs. search rules) (λ c κs. search rules) (λ c. search rules) (λ c κs. search rules) (λ c. search rules) returns (λ c. search rules) (λ c κs. search rules) (λ c. search rules) returns-2)

@@ -18,6 +18,6 @@ returns c =
     let second : tie.After-put-decimal = search rules in
     (puts_then first.put-text.ensures second.put-decimal.ensures, omega (arith, first.put-text.ensures.place, second.put-decimal.ensures.place, ten start.args.n start.fits.n.fits))
 
-pub put-count-spec : {M : Type 1} → statement M
-put-count-spec =
+pub put_count_spec : {M : Type 1} → statement M
+put_count_spec =
     tie.close (tie.spec (λ c. search rules) (λ c κs. search rules) put-decimal-requires (λ c. search rules) returns)

@@ -32,6 +32,6 @@ returns-2 c =
     let r = put.Put-refused.ensures in
     (puts_then (puts_then p q) (puts_as r.0 (refused_says numbered.number.ensures (sym seen.examined.ensures ∙ told.r.given.1))), omega (arith, p.place, q.place, r.1))
 
-pub put-line-spec : {M : Type 1} → statement M
-put-line-spec =
+pub put_line_spec : {M : Type 1} → statement M
+put_line_spec =
     tie.close (tie.spec (λ c κs. search rules) (λ c. search rules) (λ c κs. search rules) (λ c κs. search rules) (λ c. search rules) (λ c κs. search rules) (λ c. search rules) (λ c κs. search rules) (λ c κs. search rules) (λ c. search rules) (λ c. search rules) returns (λ c. search rules) (λ c. search rules) returns-2)

@@ -35,6 +35,6 @@ returns-2 c =
     let start = start_of wrote in
     not_written told.enum_told.given.1 start.pre wrote.write-snapshot.ensures
 
-pub written-as-spec : {M : Type 1} → statement M
-written-as-spec =
+pub written_as_spec : {M : Type 1} → statement M
+written_as_spec =
     tie.close (tie.spec (λ c κs. search rules) (λ c. search rules) slice-reshare-prefix-same slice-aggregate-same (λ c κs. search rules) (λ c. search rules) (λ c. search rules) returns (λ c. search rules) returns-2)

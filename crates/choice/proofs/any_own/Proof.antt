@@ -19,6 +19,6 @@ has-key-requires c κs =
     let start : tie.Start invariant-loop decreases-loop = search rules in
     (search rules, start.pre.below _ c.loop-test.true)
 
-pub any-own-spec : {M : Type 1} → statement M
-any-own-spec =
+pub any_own_spec : {M : Type 1} → statement M
+any_own_spec =
     tie.close (tie.spec invariant-loop decreases-loop (λ c. search hunt) has-key-requires (λ c. search hunt_hit) (λ c. search rules) (λ c. search rules) (λ c. search hunt_off) (λ c. search hunt_end))

@@ -62,6 +62,6 @@ returns c =
     let start : tie.Start invariant-loop decreases-loop = search rules in
     packed_front (pack_end c.before.loop.invariant (omega (arith, length_span 0 (length start.args.router.now), c.loop-test.false)))
 
-pub available-spec : {M : Type 1} → statement M
-available-spec =
+pub available_spec : {M : Type 1} → statement M
+available_spec =
     tie.close (tie.spec invariant-loop decreases-loop loop-holds offered-requires (λ c. search rules) (λ c. search rules) slice-write-rows (λ c. search rules) (λ c. search rules) (λ c. search rules) loop-again (λ c. search rules) (λ c. search rules) loop-again-2 (λ c. search rules) returns)

@@ -150,6 +150,6 @@ returns c =
     let n : tie.After-nearest = search rules in
     c.first.ensures ∙ ap (λ (rows : List ℕ). get_or rows 0 none) (near-front n).are
 
-pub choose-in-spec : {M : Type 1} → statement M
-choose-in-spec =
+pub choose_in_spec : {M : Type 1} → statement M
+choose_in_spec =
     tie.close (tie.spec available-requires (λ c. search rules) slice-aggregate-preferred preferred-requires slice-reshare-prefix-unbeaten slice-aggregate-unbeaten unbeaten-requires (λ c. search rules) slice-aggregate-own-if-any own-if-any-requires slice-relend-prefix-nearest slice-aggregate-nearest nearest-requires slice-reshare-prefix-first slice-aggregate-first (λ c κs. search rules) (λ c. search rules) (λ c. search rules) (λ c. search rules) returns)

@@ -9,6 +9,6 @@ returns c =
     let kept : tie.After-keep-equal = search rules in
     rw high.greatest.ensures at kept.keep-equal.ensures
 
-pub highest-preference-spec : {M : Type 1} → statement M
-highest-preference-spec =
+pub highest_preference_spec : {M : Type 1} → statement M
+highest_preference_spec =
     tie.close (tie.spec (λ c κs. search rules) (λ c κs. search rules) (λ c. search rules) returns)

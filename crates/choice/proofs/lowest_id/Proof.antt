@@ -62,6 +62,6 @@ returns c =
     let least : tie.After-keep-least invariant-loop decreases-loop = search rules in
     keyed_least at.loop.inv out.loop-test.left least.keep_least_lem.ensures
 
-pub lowest-id-spec : {M : Type 1} → statement M
-lowest-id-spec =
+pub lowest_id_spec : {M : Type 1} → statement M
+lowest_id_spec =
     tie.close (tie.spec invariant-loop decreases-loop (λ c. search keyed) (λ c κs. search rules) tie-id-requires mul-key slice-write-key (λ c. search rules) (λ c. search rules) loop-again keep-least-requires (λ c. search rules) (λ c. search rules) returns)

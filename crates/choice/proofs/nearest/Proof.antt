@@ -68,6 +68,6 @@ returns c =
     front_next (keep_least (column start.args.peer.now)) (front_next (keep_least (tie-id start)) near.lowest-distance.ensures low.lowest-id.ensures)
     (packed_front last.lowest-peer.ensures)
 
-pub nearest-spec : {M : Type 1} → statement M
-nearest-spec =
+pub nearest_spec : {M : Type 1} → statement M
+nearest_spec =
     tie.close (tie.spec lowest-distance-requires (λ c. search rules) slice-aggregate-lowest-id lowest-id-requires slice-relend-prefix-lowest-peer slice-aggregate-lowest-peer lowest-peer-requires (λ c. search rules) (λ c. search rules) returns)

@@ -19,6 +19,6 @@ returns c =
     let a = start.args in
     rw (get_or_inside a.held.now (column a.router.now a.q) none 0 start.pre.1)
 
-pub offered-spec : {M : Type 1} → statement M
-offered-spec =
+pub offered_spec : {M : Type 1} → statement M
+offered_spec =
     tie.close (tie.spec (λ c. search rules) (λ c. search rules) (λ c. search rules) (λ c. search rules) (λ c. search rules) cast-row (λ c. search rules) (λ c. search rules) returns)

@@ -19,6 +19,6 @@ returns-2 c =
     let branch : tie.Else1 = search rules in
     rw (sym any.any-own.ensures ∙ branch.if1.left) (front_all start.args.rows.now)
 
-pub own-if-any-spec : {M : Type 1} → statement M
-own-if-any-spec =
+pub own_if_any_spec : {M : Type 1} → statement M
+own_if_any_spec =
     tie.close (tie.spec (λ c κs. search rules) (λ c κs. search rules) (λ c. search rules) returns (λ c. search rules) returns-2)

@@ -60,6 +60,6 @@ returns c =
     let low : tie.After-lowest-origin = search rules in
     packed_next (keep_least (column (start_of (high-of short)).args.origin.now)) (short-packed short) low.lowest-origin.ensures
 
-pub preferred-spec : {M : Type 1} → statement M
-preferred-spec =
+pub preferred_spec : {M : Type 1} → statement M
+preferred_spec =
     tie.close (tie.spec (λ c κs. search rules) (λ c. search rules) slice-aggregate-shortest-path shortest-path-requires slice-relend-prefix-lowest-origin slice-aggregate-lowest-origin lowest-origin-requires (λ c. search rules) returns)

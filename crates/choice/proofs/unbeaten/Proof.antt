@@ -108,6 +108,6 @@ loop-again-2 c =
     let scanned : tie.Left-scan invariant-scan decreases-scan invariant-loop decreases-loop = search rules in
     pack_off at.loop.inv turn.loop-test.taken (told scanned) c.if2.false
 
-pub unbeaten-spec : {M : Type 1} → statement M
-unbeaten-spec =
+pub unbeaten_spec : {M : Type 1} → statement M
+unbeaten_spec =
     tie.close (tie.spec invariant-scan decreases-scan invariant-loop decreases-loop loop-holds at-requires scan-holds at-requires-2 beats-requires (λ c. search rules) (λ c. search rules) scan-again (λ c. search rules) (λ c. search rules) mul-left-2 slice-write-left add-n (λ c. search rules) (λ c. search rules) loop-again (λ c. search rules) (λ c. search rules) loop-again-2 (λ c. search rules) (λ c. pack_end c.before.loop.invariant c.loop-test.false))

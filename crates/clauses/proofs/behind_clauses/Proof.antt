@@ -35,8 +35,8 @@ room : (c : tie.After-clause-size invariant-loop decreases-loop)
     → ((here (turn c)).loop.at + c.clause-size.result ≤ length (start (turn c)).args.policy.now) × (5 ≤ c.clause-size.result)
 room c = clause_room (start (turn c)).args.policy.now (here (turn c)).loop.at (stands (turn c)) c.clause-size.ensures
 
-pub behind-clauses-spec : {M : Type 1} → statement M
-behind-clauses-spec =
+pub behind_clauses_spec : {M : Type 1} → statement M
+behind_clauses_spec =
     tie.close
     (tie.spec
     invariant-loop

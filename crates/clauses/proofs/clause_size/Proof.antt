@@ -7,8 +7,8 @@ use Rattle.clauses.specs.WalkingLaws.{clause_exact, clause_direct, clause_any}
 use Rattle.clauses.proofs.clause_size.Statement.{statement}
 use Rattle.clauses.proofs.clause_size.Tie as tie
 
-pub clause-size-spec : {M : Type 1} → statement M
-clause-size-spec =
+pub clause_size_spec : {M : Type 1} → statement M
+clause_size_spec =
     tie.close
     (tie.spec
     (λ c κs. search rules)

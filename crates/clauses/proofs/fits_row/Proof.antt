@@ -10,8 +10,8 @@ use Rattle.clauses.specs.Walking.{clause_by}
 use Rattle.clauses.proofs.fits_row.Statement.{statement}
 use Rattle.clauses.proofs.fits_row.Tie as tie
 
-pub fits-row-spec : {M : Type 1} → statement M
-fits-row-spec =
+pub fits_row_spec : {M : Type 1} → statement M
+fits_row_spec =
     tie.close
     (tie.spec
     (λ c.

@@ -6,8 +6,8 @@ use Rattle.clauses.specs.WalkingLaws.{size_bounds}
 use Rattle.clauses.proofs.is_clause.Statement.{statement}
 use Rattle.clauses.proofs.is_clause.Tie as tie
 
-pub is-clause-spec : {M : Type 1} → statement M
-is-clause-spec =
+pub is_clause_spec : {M : Type 1} → statement M
+is_clause_spec =
     tie.close
     (tie.spec
     (λ c κs. search rules)

@@ -3,6 +3,6 @@ use borrow.Author.Rules.{rules}
 use Rattle.clauses.proofs.is_session.Statement.{statement}
 use Rattle.clauses.proofs.is_session.Tie as tie
 
-pub is-session-spec : {M : Type 1} → statement M
-is-session-spec =
+pub is_session_spec : {M : Type 1} → statement M
+is_session_spec =
     tie.close (tie.spec (λ c κs. search rules) (λ c. search rules) (λ c. cc))

@@ -12,8 +12,8 @@ use Rattle.clauses.specs.WalkingLaws.{clause_room, exact_room}
 use Rattle.clauses.proofs.length_at.Statement.{statement}
 use Rattle.clauses.proofs.length_at.Tie as tie
 
-pub length-at-spec : {M : Type 1} → statement M
-length-at-spec =
+pub length_at_spec : {M : Type 1} → statement M
+length_at_spec =
     tie.close
     (tie.spec
     (λ c. let s : tie.Start = search rules in let room = clause_room s.args.policy.now s.args.at s.pre refl in omega (arith, room.0, room.1))

@@ -18,8 +18,8 @@ Turn = tie.In-loop invariant-loop decreases-loop
 abbrev begun : Turn → tie.Start invariant-loop decreases-loop
 begun t = search rules
 
-pub preferred-spec : {M : Type 1} → statement M
-preferred-spec =
+pub preferred_spec : {M : Type 1} → statement M
+preferred_spec =
     tie.close
     (tie.spec
     invariant-loop

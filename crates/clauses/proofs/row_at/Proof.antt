@@ -14,8 +14,8 @@ room s =
     let r = clause_room s.args.policy.now s.args.at s.requires.0 refl in
     (omega (arith, r.0, s.requires.1), omega (arith, r.1, s.requires.1))
 
-pub row-at-spec : {M : Type 1} → statement M
-row-at-spec =
+pub row_at_spec : {M : Type 1} → statement M
+row_at_spec =
     tie.close
     (tie.spec
     (λ c κs. let s : tie.Start = search rules in omega (arith, (room s).0, (room s).1))

@@ -23,8 +23,8 @@ bytes-few : (b : Bool) → bool_byte b ≤ 1
 bytes-few true = omega arith
 bytes-few false = omega arith
 
-pub session-at-spec : {M : Type 1} → statement M
-session-at-spec =
+pub session_at_spec : {M : Type 1} → statement M
+session_at_spec =
     tie.close
     (tie.spec
     (λ c. let s : tie.Start = search rules in omega (arith, whole s))

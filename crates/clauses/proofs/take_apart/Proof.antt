@@ -31,8 +31,8 @@ turn e = search rules
 stands : (e : tie.Else1 invariant-loop decreases-loop) → is_clause (begun (turn e)).args.policy.now (turn e).before.loop.at ≡ true
 stands e = let i : tie.After-is-clause invariant-loop decreases-loop = search rules in sym i.is-clause.ensures ∙ not-false _ e.if1.false
 
-pub take-apart-spec : {M : Type 1} → statement M
-take-apart-spec =
+pub take_apart_spec : {M : Type 1} → statement M
+take_apart_spec =
     tie.close
     (tie.spec
     invariant-loop

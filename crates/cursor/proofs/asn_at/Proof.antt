@@ -7,8 +7,8 @@ use Rattle.cursor.specs.StepsLaws.{route_least, bits_few, asn_left}
 use Rattle.cursor.proofs.asn_at.Statement.{statement}
 use Rattle.cursor.proofs.asn_at.Tie as tie
 
-pub asn-at-spec : {M : Type 1} → statement M
-asn-at-spec =
+pub asn_at_spec : {M : Type 1} → statement M
+asn_at_spec =
     tie.close
     (tie.spec
     (λ c. search rules)

@@ -2,6 +2,6 @@
 use Rattle.cursor.proofs.check.Statement.{statement}
 use Rattle.cursor.proofs.check.Tie as tie
 
-pub check-spec : {M : Type 1} → statement M
-check-spec =
+pub check_spec : {M : Type 1} → statement M
+check_spec =
     tie.close (tie.spec (λ c. simp c.if1.true) (λ c. simp c.if1.false))

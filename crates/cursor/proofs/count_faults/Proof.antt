@@ -7,8 +7,8 @@ use Rattle.cursor.specs.declared.Finding.TheVariants.{Clear, Fault}
 use Rattle.cursor.proofs.count_faults.Statement.{statement}
 use Rattle.cursor.proofs.count_faults.Tie as tie
 
-pub count-faults-spec : {M : Type 1} → statement M
-count-faults-spec =
+pub count_faults_spec : {M : Type 1} → statement M
+count_faults_spec =
     tie.close
     (tie.spec
     (λ c κs. search rules)

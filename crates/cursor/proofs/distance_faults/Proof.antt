@@ -8,8 +8,8 @@ use Rattle.cursor.specs.declared.Finding.TheVariants.{Fault}
 use Rattle.cursor.proofs.distance_faults.Statement.{statement}
 use Rattle.cursor.proofs.distance_faults.Tie as tie
 
-pub distance-faults-spec : {M : Type 1} → statement M
-distance-faults-spec =
+pub distance_faults_spec : {M : Type 1} → statement M
+distance_faults_spec =
     tie.close
     (tie.spec
     (λ c κs. search rules)

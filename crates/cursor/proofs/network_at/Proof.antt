@@ -3,8 +3,8 @@ use borrow.Author.Rules.{rules}
 use Rattle.cursor.proofs.network_at.Statement.{statement}
 use Rattle.cursor.proofs.network_at.Tie as tie
 
-pub network-at-spec : {M : Type 1} → statement M
-network-at-spec =
+pub network_at_spec : {M : Type 1} → statement M
+network_at_spec =
     tie.close
     (tie.spec
     (λ c. search rules)

@@ -8,8 +8,8 @@ use Rattle.cursor.specs.declared.Finding.TheVariants.{Clear, Fault}
 use Rattle.cursor.proofs.prefix_faults.Statement.{statement}
 use Rattle.cursor.proofs.prefix_faults.Tie as tie
 
-pub prefix-faults-spec : {M : Type 1} → statement M
-prefix-faults-spec =
+pub prefix_faults_spec : {M : Type 1} → statement M
+prefix_faults_spec =
     tie.close
     (tie.spec
     (λ c κs. search rules)

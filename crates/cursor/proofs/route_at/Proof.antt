@@ -9,8 +9,8 @@ use Rattle.cursor.specs.StepsLaws.{route_least, fields_behind}
 use Rattle.cursor.proofs.route_at.Statement.{statement}
 use Rattle.cursor.proofs.route_at.Tie as tie
 
-pub route-at-spec : {M : Type 1} → statement M
-route-at-spec =
+pub route_at_spec : {M : Type 1} → statement M
+route_at_spec =
     tie.close
     (tie.spec
     (λ c. search rules)

@@ -3,8 +3,8 @@ use borrow.Author.Rules.{rules}
 use Rattle.cursor.proofs.route_behind.Statement.{statement}
 use Rattle.cursor.proofs.route_behind.Tie as tie
 
-pub route-behind-spec : {M : Type 1} → statement M
-route-behind-spec =
+pub route_behind_spec : {M : Type 1} → statement M
+route_behind_spec =
     tie.close
     (tie.spec
     (λ c κs. search rules)

@@ -9,8 +9,8 @@ use Rattle.cursor.specs.declared.Finding.TheVariants.{Clear, Fault}
 use Rattle.cursor.proofs.route_faults.Statement.{statement}
 use Rattle.cursor.proofs.route_faults.Tie as tie
 
-pub route-faults-spec : {M : Type 1} → statement M
-route-faults-spec =
+pub route_faults_spec : {M : Type 1} → statement M
+route_faults_spec =
     tie.close
     (tie.spec
     (λ c κs. search rules)

@@ -11,8 +11,8 @@ use Rattle.cursor.specs.Steps.{id_at, router_place, ids_at}
 use Rattle.cursor.proofs.router_faults.Statement.{statement}
 use Rattle.cursor.proofs.router_faults.Tie as tie
 
-pub router-faults-spec : {M : Type 1} → statement M
-router-faults-spec =
+pub router_faults_spec : {M : Type 1} → statement M
+router_faults_spec =
     tie.close
     (tie.spec
     (λ c κs. search rules)

@@ -15,8 +15,8 @@ invariant-loop input first given id found₀ i₀ found i = Looked (eqb id) (λ 
 abbrev decreases-loop : tie.decreases-loop
 decreases-loop input first given id found₀ i₀ found i = given - i
 
-pub twin-spec : {M : Type 1} → statement M
-twin-spec =
+pub twin_spec : {M : Type 1} → statement M
+twin_spec =
     tie.close
     (tie.spec
     invariant-loop

@@ -3,8 +3,8 @@ use Rattle.decide.specs.DecideLaws.{decided}
 use Rattle.decide.proofs.decided.Statement.{statement}
 use Rattle.decide.proofs.decided.Tie as tie
 
-pub decided-spec : {M : Type 1} → statement M
-decided-spec =
+pub decided_spec : {M : Type 1} → statement M
+decided_spec =
     tie.close (tie.spec (λ c κs. search rules) (λ c κs. search rules) (λ c κs. search rules) (λ c. search rules) (λ c. search rules) (λ c.
     let rows : tie.After-forecast-rows = search rules in
     let marked : tie.After-differing = search rules in

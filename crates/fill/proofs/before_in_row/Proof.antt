@@ -4,6 +4,6 @@ use borrow.Author.Tests.{le-leb, lt-leb}
 use Rattle.fill.proofs.before_in_row.Statement.{statement}
 use Rattle.fill.proofs.before_in_row.Tie as tie
 
-pub before-in-row-spec : {M : Type 1} → statement M
-before-in-row-spec =
+pub before_in_row_spec : {M : Type 1} → statement M
+before_in_row_spec =
     tie.close (tie.spec (λ c. simp (le-leb _ _ c.if1.true)) (λ c. search rules) (λ c. simp (lt-leb _ _ c.if1.false)))

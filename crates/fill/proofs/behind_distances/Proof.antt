@@ -5,8 +5,8 @@ use Rattle.fill.specs.FillLaws.{square_small}
 use Rattle.fill.proofs.behind_distances.Statement.{statement}
 use Rattle.fill.proofs.behind_distances.Tie as tie
 
-pub behind-distances-spec : {M : Type 1} → statement M
-behind-distances-spec =
+pub behind_distances_spec : {M : Type 1} → statement M
+behind_distances_spec =
     tie.close
     (tie.spec
     (λ c. search rules)

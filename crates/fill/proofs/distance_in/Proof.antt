@@ -11,8 +11,8 @@ use Rattle.fill.specs.FillLaws.{place_inside}
 use Rattle.fill.proofs.distance_in.Statement.{statement}
 use Rattle.fill.proofs.distance_in.Tie as tie
 
-pub distance-in-spec : {M : Type 1} → statement M
-distance-in-spec =
+pub distance_in_spec : {M : Type 1} → statement M
+distance_in_spec =
     tie.close
     (tie.spec
     (λ c. simp (eq-eqb _ _ c.if1.true))

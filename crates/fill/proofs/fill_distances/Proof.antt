@@ -14,8 +14,8 @@ invariant-loop input n distances₀ stride₀ end k₀ distances k = Entries inp
 abbrev decreases-loop : tie.decreases-loop
 decreases-loop input n distances₀ stride₀ end k₀ distances k = n * stride - k
 
-pub fill-distances-spec : {M : Type 1} → statement M
-fill-distances-spec =
+pub fill_distances_spec : {M : Type 1} → statement M
+fill_distances_spec =
     tie.close
     (tie.spec
     invariant-loop

@@ -12,8 +12,8 @@ invariant-loop input n ids₀ i₀ ids i = Ids input n ids₀ i ids
 abbrev decreases-loop : tie.decreases-loop
 decreases-loop input n ids₀ i₀ ids i = n - i
 
-pub fill-ids-spec : {M : Type 1} → statement M
-fill-ids-spec =
+pub fill_ids_spec : {M : Type 1} → statement M
+fill_ids_spec =
     tie.close
     (tie.spec
     invariant-loop

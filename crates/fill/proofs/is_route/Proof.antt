@@ -11,8 +11,8 @@ use Rattle.fill.specs.StoresLaws.{route_most}
 use Rattle.fill.proofs.is_route.Statement.{statement}
 use Rattle.fill.proofs.is_route.Tie as tie
 
-pub is-route-spec : {M : Type 1} → statement M
-is-route-spec =
+pub is_route_spec : {M : Type 1} → statement M
+is_route_spec =
     tie.close
     (tie.spec
     (λ c κs. search rules)

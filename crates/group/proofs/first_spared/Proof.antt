@@ -50,6 +50,6 @@ returns-2 c =
     let n = length start.args.group.now in
     sym (length_span 0 n) ∙ leads_end c.before.loop.invariant (omega (arith, c.loop-test.false, length_span 0 n))
 
-pub first-spared-spec : {M : Type 1} → statement M
-first-spared-spec =
+pub first_spared_spec : {M : Type 1} → statement M
+first_spared_spec =
     tie.close (tie.spec invariant-loop decreases-loop (λ c. search leads) spared-requires (λ c. search rules) returns (λ c. search rules) (λ c. search rules) loop-again (λ c. search rules) returns-2)

@@ -59,6 +59,6 @@ loop-again c =
     let row : tie.After-at invariant-loop decreases-loop = search rules in
     walk_off at.loop.inv turn.loop-test.taken (rw row.at.ensures at asked.has_key_lem.ensures) c.if1.false
 
-pub group-of-spec : {M : Type 1} → statement M
-group-of-spec =
+pub group_of_spec : {M : Type 1} → statement M
+group_of_spec =
     tie.close (tie.spec invariant-loop decreases-loop (λ c κs. search rules) mul-value shared-slice-read-value (λ c. walk refl) has-key-requires returns (λ c. search rules) (λ c. search rules) loop-again (λ c. sym (walk_end c.before.loop.invariant c.loop-test.false)))

@@ -23,6 +23,6 @@ cast c =
     let found : tie.After-group-of invariant-loop decreases-loop = search rules in
     omega (arith, found.Group-of.ensures, group_le (λ p. column start.args.key.now (column start.args.rows.now p)) at.loop.k)
 
-pub groups-spec : {M : Type 1} → statement M
-groups-spec =
+pub groups_spec : {M : Type 1} → statement M
+groups_spec =
     tie.close (tie.spec invariant-loop decreases-loop (λ c. search (stored, rules)) (λ c κs. search rules) cast (λ c. search rules) (λ c. search rules) (λ c. search rules) (λ c. search rules) (λ c. search stored_next) (λ c. search rules) (λ c. search stored_end))

@@ -11,6 +11,6 @@ forecast-rows-in-requires c κs =
     let few = start.pre.0.fits.few in
     (start.pre.0, (simp length-take (omega arith), simp length-take (omega arith), start.pre.1))
 
-pub forecast-rows-spec : {M : Type 1} → statement M
-forecast-rows-spec =
+pub forecast_rows_spec : {M : Type 1} → statement M
+forecast_rows_spec =
     tie.close (tie.spec (λ c κs. search rules) (λ c κs. search rules) (λ c. search rules) (λ c. simp length-take (omega arith)) (λ c. search rules) (λ c. simp length-take (omega arith)) forecast-rows-in-requires (λ c. search rules) (λ c. search rules) (λ c. search rules))

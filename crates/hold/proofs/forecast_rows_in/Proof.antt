@@ -107,6 +107,6 @@ returns c =
       late_rows = held_is a.ids.now a.distances.now (t entry) (λ m. latest (contest (routes_mesh m (t entry)))) n k entry.pre.1.0 (last-long stood) stood.own-rows.ensures.late_rows second.hold2.ensures;
     }
 
-pub forecast-rows-in-spec : {M : Type 1} → statement M
-forecast-rows-in-spec =
+pub forecast_rows_in_spec : {M : Type 1} → statement M
+forecast_rows_in_spec =
     tie.close (tie.spec own-rows-requires hold-requires hold-requires-2 (λ c. search rules) (λ c. search rules) (λ c. search rules) (λ c. search rules) returns)

@@ -48,8 +48,8 @@ loop-again-2 c =
     let chose : tie.After-choose invariant-loop decreases-loop = search rules in
     stored_next at.loop.inv turn.loop-test.taken chose.choose.ensures
 
-pub hold-spec : {M : Type 1} → statement M
-hold-spec =
+pub hold_spec : {M : Type 1} → statement M
+hold_spec =
     tie.close (tie.spec invariant-loop decreases-loop (λ c. search (stored, rules))
     (λ c. search rules) (λ c. search rules) (λ c. search rules) (λ c. search rules) (λ c. search rules) (λ c. search rules) (λ c. search rules) (λ c. search rules)
     loop-again cast-choose choose-requires

@@ -6,8 +6,8 @@ use Rattle.load.specs.LoadLaws.{asked_spans, asked_again}
 use Rattle.host.proofs.answer.Statement.{statement}
 use Rattle.host.proofs.answer.Tie as tie
 
-pub answer-spec : {M : Type 1} → statement M
-answer-spec =
+pub answer_spec : {M : Type 1} → statement M
+answer_spec =
     tie.close
     (tie.spec
     (λ c κs. search rules)

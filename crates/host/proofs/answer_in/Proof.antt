@@ -6,8 +6,8 @@ use Rattle.host.specs.HostLaws.{answers_given}
 use Rattle.host.proofs.answer_in.Statement.{statement}
 use Rattle.host.proofs.answer_in.Tie as tie
 
-pub answer-in-spec : {M : Type 1} → statement M
-answer-in-spec =
+pub answer_in_spec : {M : Type 1} → statement M
+answer_in_spec =
     tie.close
     (tie.spec
     (λ c κs. search rules)

@@ -49,8 +49,8 @@ returns-3 c =
     let code : tie.After-refused2 = search rules in
     answers_as code.refused2.ensures (answers_refused long.if1.left (sym bad.r.given.1 ∙ said_is _ judged.judge.ensures))
 
-pub barrierose-forecast-spec : {M : Type 1} → statement M
-barrierose-forecast-spec =
+pub barrierose_forecast_spec : {M : Type 1} → statement M
+barrierose_forecast_spec =
     tie.close
     (tie.spec
     (λ c κs. search rules)

@@ -5,8 +5,8 @@ use Rattle.refusal.specs.Numbers.{Said}
 use Rattle.host.proofs.barrierose_policy.Statement.{statement}
 use Rattle.host.proofs.barrierose_policy.Tie as tie
 
-pub barrierose-policy-spec : {M : Type 1} → statement M
-barrierose-policy-spec =
+pub barrierose_policy_spec : {M : Type 1} → statement M
+barrierose_policy_spec =
     tie.close
     (tie.spec
     (λ c κs. search rules)

@@ -14,8 +14,8 @@ returns c =
     let second : tie.After-put162 = search rules in
     router_put start.args.at start.args.early start.args.late early.wide.ensures first.put16.ensures late.wide2.ensures second.put162.ensures refl
 
-pub put-router-spec : {M : Type 1} → statement M
-put-router-spec =
+pub put_router_spec : {M : Type 1} → statement M
+put_router_spec =
     tie.close
     (tie.spec
     (λ c κs. search rules)

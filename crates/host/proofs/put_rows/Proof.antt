@@ -15,8 +15,8 @@ invariant-loop early late area₀ at₀ r₀ r-end area at r = Lined (router_byt
 abbrev decreases-loop : tie.decreases-loop
 decreases-loop early late area₀ at₀ r₀ r-end area at r = length early - r
 
-pub put-rows-spec : {M : Type 1} → statement M
-put-rows-spec =
+pub put_rows_spec : {M : Type 1} → statement M
+put_rows_spec =
     tie.close
     (tie.spec
     invariant-loop

@@ -7,8 +7,8 @@ use Rattle.refusal.specs.NumbersLaws.{number_range}
 use Rattle.host.proofs.refused.Statement.{statement}
 use Rattle.host.proofs.refused.Tie as tie
 
-pub refused-spec : {M : Type 1} → statement M
-refused-spec =
+pub refused_spec : {M : Type 1} → statement M
+refused_spec =
     tie.close
     (tie.spec
     (λ c κs. search rules)

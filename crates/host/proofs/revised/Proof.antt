@@ -9,8 +9,8 @@ use Rattle.revise.specs.Revising.{said}
 use Rattle.host.proofs.revised.Statement.{statement}
 use Rattle.host.proofs.revised.Tie as tie
 
-pub revised-spec : {M : Type 1} → statement M
-revised-spec =
+pub revised_spec : {M : Type 1} → statement M
+revised_spec =
     tie.close
     (tie.spec
     (λ c. search rules)

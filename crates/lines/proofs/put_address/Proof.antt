@@ -4,8 +4,8 @@ use Rattle.text.specs.TextLaws.{puts_then}
 use Rattle.lines.proofs.put_address.Statement.{statement}
 use Rattle.lines.proofs.put_address.Tie as tie
 
-pub put-address-spec : {M : Type 1} → statement M
-put-address-spec =
+pub put_address_spec : {M : Type 1} → statement M
+put_address_spec =
     tie.close (tie.spec
     (λ c. search rules)
     (λ c κs. search rules)

@@ -7,8 +7,8 @@ use Rattle.text.specs.TextLaws.{puts_then}
 use Rattle.lines.proofs.put_entry.Statement.{statement}
 use Rattle.lines.proofs.put_entry.Tie as tie
 
-pub put-entry-spec : {M : Type 1} → statement M
-put-entry-spec =
+pub put_entry_spec : {M : Type 1} → statement M
+put_entry_spec =
     tie.close (tie.spec
     (λ c. search rules)
     (λ c κs. search rules)

@@ -4,8 +4,8 @@ use Rattle.text.specs.TextLaws.{puts_then}
 use Rattle.lines.proofs.put_heading.Statement.{statement}
 use Rattle.lines.proofs.put_heading.Tie as tie
 
-pub put-heading-spec : {M : Type 1} → statement M
-put-heading-spec =
+pub put_heading_spec : {M : Type 1} → statement M
+put_heading_spec =
     tie.close (tie.spec
     (λ c. search rules)
     (λ c κs. search rules)

@@ -7,8 +7,8 @@ use Rattle.text.specs.TextLaws.{puts_then}
 use Rattle.lines.proofs.put_number.Statement.{statement}
 use Rattle.lines.proofs.put_number.Tie as tie
 
-pub put-number-spec : {M : Type 1} → statement M
-put-number-spec =
+pub put_number_spec : {M : Type 1} → statement M
+put_number_spec =
     tie.close (tie.spec (λ c κs. search rules)
     (λ c κs.
     let start : tie.Start = search rules in

@@ -4,8 +4,8 @@ use Rattle.text.specs.TextLaws.{puts_none, puts_then}
 use Rattle.lines.proofs.put_or.Statement.{statement}
 use Rattle.lines.proofs.put_or.Tie as tie
 
-pub put-or-spec : {M : Type 1} → statement M
-put-or-spec =
+pub put_or_spec : {M : Type 1} → statement M
+put_or_spec =
     tie.close (tie.spec
     (λ c. search rules)
     (λ c κs. search rules)

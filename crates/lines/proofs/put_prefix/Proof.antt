@@ -4,8 +4,8 @@ use Rattle.text.specs.TextLaws.{puts_then}
 use Rattle.lines.proofs.put_prefix.Statement.{statement}
 use Rattle.lines.proofs.put_prefix.Tie as tie
 
-pub put-prefix-spec : {M : Type 1} → statement M
-put-prefix-spec =
+pub put_prefix_spec : {M : Type 1} → statement M
+put_prefix_spec =
     tie.close (tie.spec
     (λ c. search rules)
     (λ c κs. search rules)

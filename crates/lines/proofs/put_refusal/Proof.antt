@@ -5,8 +5,8 @@ use Rattle.text.specs.TextLaws.{puts_then}
 use Rattle.lines.proofs.put_refusal.Statement.{statement}
 use Rattle.lines.proofs.put_refusal.Tie as tie
 
-pub put-refusal-spec : {M : Type 1} → statement M
-put-refusal-spec =
+pub put_refusal_spec : {M : Type 1} → statement M
+put_refusal_spec =
     tie.close (tie.spec
     (λ c κs. search rules)
     (λ c. search rules)

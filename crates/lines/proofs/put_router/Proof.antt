@@ -4,8 +4,8 @@ use Rattle.text.specs.TextLaws.{puts_then}
 use Rattle.lines.proofs.put_router.Statement.{statement}
 use Rattle.lines.proofs.put_router.Tie as tie
 
-pub put-router-spec : {M : Type 1} → statement M
-put-router-spec =
+pub put_router_spec : {M : Type 1} → statement M
+put_router_spec =
     tie.close (tie.spec
     (λ c. search rules)
     (λ c κs. search rules)

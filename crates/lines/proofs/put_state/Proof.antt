@@ -4,8 +4,8 @@ use borrow.Author.Tests.{eq-eqb, ne_eqb}
 use Rattle.lines.proofs.put_state.Statement.{statement}
 use Rattle.lines.proofs.put_state.Tie as tie
 
-pub put-state-spec : {M : Type 1} → statement M
-put-state-spec =
+pub put_state_spec : {M : Type 1} → statement M
+put_state_spec =
     tie.close (tie.spec
     (λ c. search rules)
     (λ c κs. search rules)

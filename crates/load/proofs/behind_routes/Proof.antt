@@ -33,8 +33,8 @@ stands c = sym c.before.is-route.ensures ∙ not-false _ c.if1.false
 sized : (z : tie.After-route-size invariant-loop decreases-loop) → let l = z.before.before.before.before in z.route_size_lem.result ≡ size (form_at route_forms (bytes l) (place l))
 sized z = z.route_size_lem.ensures ∙ ap (λ (n : ℕ). size (form_of route_forms n)) z.before.before.before.kind_at.ensures
 
-pub behind-routes-spec : {M : Type 1} → statement M
-behind-routes-spec =
+pub behind_routes_spec : {M : Type 1} → statement M
+behind_routes_spec =
     tie.close
     (tie.spec
     invariant-loop

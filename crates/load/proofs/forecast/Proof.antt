@@ -4,8 +4,8 @@ use native.Mathlib.Omega.{arith}
 use Rattle.load.proofs.forecast.Statement.{statement}
 use Rattle.load.proofs.forecast.Tie as tie
 
-pub forecast-spec : {M : Type 1} → statement M
-forecast-spec =
+pub forecast_spec : {M : Type 1} → statement M
+forecast_spec =
     tie.close
     (tie.spec
     (λ c κs. search rules)

@@ -103,8 +103,8 @@ returns c =
     let l = loading d in
     loaded_forecast (start l).pre.0 (start l).pre.1 l.load.ensures d.decided.ensures
 
-pub forecast-in-spec : {M : Type 1} → statement M
-forecast-in-spec =
+pub forecast_in_spec : {M : Type 1} → statement M
+forecast_in_spec =
     tie.close
     (tie.spec
     (λ c κs. search rules)

@@ -11,8 +11,8 @@ invariant-loop input at more at₀ left₀ at' left = Sought input more at left 
 abbrev decreases-loop : tie.decreases-loop
 decreases-loop input at more at₀ left₀ at' left = left
 
-pub place-of-spec : {M : Type 1} → statement M
-place-of-spec =
+pub place_of_spec : {M : Type 1} → statement M
+place_of_spec =
     tie.close
     (tie.spec
     invariant-loop

@@ -12,6 +12,6 @@ returns c =
     let m = made told in
     record { said = said m.forecast.result; forecasts = m.forecast.ensures; number = told.outlook-number.ensures }
 
-pub measure-forecast-spec : {M : Type 1} → statement M
-measure-forecast-spec =
+pub measure_forecast_spec : {M : Type 1} → statement M
+measure_forecast_spec =
     tie.close (tie.spec (λ c κs. search rules) (λ c κs. search rules) (λ c. search rules) (λ c. search rules) returns)

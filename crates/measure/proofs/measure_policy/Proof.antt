@@ -12,6 +12,6 @@ returns c =
     let m = made told in
     record { said = said m.apply-policy.result; applies = m.apply-policy.ensures; number = told.applied-number.ensures }
 
-pub measure-policy-spec : {M : Type 1} → statement M
-measure-policy-spec =
+pub measure_policy_spec : {M : Type 1} → statement M
+measure_policy_spec =
     tie.close (tie.spec (λ c κs. search rules) (λ c κs. search rules) (λ c. search rules) (λ c. search rules) (λ c. search rules) returns)

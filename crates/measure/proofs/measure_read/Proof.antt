@@ -13,8 +13,8 @@ returns c =
     let e = (made told).read-snapshot.ensures in
     record { tables = e.1; number = told.read_number.ensures ∙ ap (λ (s : Said). s.number) e.0 }
 
-pub measure-read-spec : {M : Type 1} → statement M
-measure-read-spec =
+pub measure_read_spec : {M : Type 1} → statement M
+measure_read_spec =
     tie.close (tie.spec (λ c κs. search rules) (λ c κs. search rules)
     (λ c.
     let told : tie.After-read-number = search rules in

@@ -12,6 +12,6 @@ returns c =
     let m = made told in
     record { said = said m.write-snapshot.result; writes = m.write-snapshot.ensures; number = told.write-number.ensures }
 
-pub measure-write-spec : {M : Type 1} → statement M
-measure-write-spec =
+pub measure_write_spec : {M : Type 1} → statement M
+measure_write_spec =
     tie.close (tie.spec (λ c κs. search rules) (λ c κs. search rules) (λ c. search rules) returns)

@@ -11,8 +11,8 @@ use Rattle.measure.specs.MeasureLaws.{refused_number}
 use Rattle.measure.proofs.outlook_number.Statement.{statement}
 use Rattle.measure.proofs.outlook_number.Tie as tie
 
-pub outlook-number-spec : {M : Type 1} → statement M
-outlook-number-spec =
+pub outlook_number_spec : {M : Type 1} → statement M
+outlook_number_spec =
     tie.close
     (tie.spec
     (λ c. search rules)

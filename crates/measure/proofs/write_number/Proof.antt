@@ -9,8 +9,8 @@ use Rattle.measure.specs.MeasureLaws.{refused_number}
 use Rattle.measure.proofs.write_number.Statement.{statement}
 use Rattle.measure.proofs.write_number.Tie as tie
 
-pub write-number-spec : {M : Type 1} → statement M
-write-number-spec =
+pub write_number_spec : {M : Type 1} → statement M
+write_number_spec =
     tie.close
     (tie.spec
     (λ c. search rules)

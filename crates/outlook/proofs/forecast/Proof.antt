@@ -128,8 +128,8 @@ returns-4 c =
     shown_given s.args.counts (lent s) s.args.prefix (free told) (holding told) there.if2.left (found-by made).start_of.ensures refl
     s.args.early.now s.args.late.now (enough told) made.shown.ensures
 
-pub forecast-spec : {M : Type 1} → statement M
-forecast-spec =
+pub forecast_spec : {M : Type 1} → statement M
+forecast_spec =
     tie.close
     (tie.spec
     (λ c. search rules)

@@ -28,8 +28,8 @@ returns c =
     let l = length-take-le begun.args.routers begun.args.late.now begun.pre.lates in
     shown_again (omega (arith, e, l)) begun.args.ids.now begun.args.distances.now (cut begun.args.first (begun.args.end - begun.args.first) (columns begun.args.router.now begun.args.asn.now begun.args.preference.now begun.args.path.now begun.args.origin.now begun.args.med.now begun.args.nid.now begun.args.peer.now)) begun.pre.earlies begun.pre.lates refl refl made.decided.ensures
 
-pub shown-spec : {M : Type 1} → statement M
-shown-spec =
+pub shown_spec : {M : Type 1} → statement M
+shown_spec =
     tie.close (tie.spec
     (λ c.
     let begun : tie.Start = search rules in

@@ -21,8 +21,8 @@ add-sum c =
     let routes = begun.args.routes.now in
     omega (arith, here.loop.inv.1, turn.loop-test.taken, start_within routes here.loop.p begun.args.prefix turn.loop-test.taken, begun.pre.1)
 
-pub start-of-spec : {M : Type 1} → statement M
-start-of-spec =
+pub start_of_spec : {M : Type 1} → statement M
+start_of_spec =
     tie.close (tie.spec invariant-loop decreases-loop
     (λ c. (omega arith, sym (start_first c.args.routes.now)))
     (λ c. search rules) (λ c. search rules)

@@ -4,8 +4,8 @@ use Rattle.text.specs.TextLaws.{puts_then}
 use Rattle.page.proofs.put_block.Statement.{statement}
 use Rattle.page.proofs.put_block.Tie as tie
 
-pub put-block-spec : {M : Type 1} → statement M
-put-block-spec =
+pub put_block_spec : {M : Type 1} → statement M
+put_block_spec =
     tie.close (tie.spec (λ c κs. search rules)
     (λ c κs.
     let begun : tie.Start = search rules in

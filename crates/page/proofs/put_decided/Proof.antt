@@ -52,6 +52,6 @@ returns c =
     let part = (begun made).pre.1 in
     (puts_as put.put-block.ensures.0 (block_is (mesh (begun made)) made.shown.ensures part.earlies part.lates a.address a.bits), put.put-block.ensures.1)
 
-pub put-decided-spec : {M : Type 1} → statement M
-put-decided-spec =
+pub put_decided_spec : {M : Type 1} → statement M
+put_decided_spec =
     tie.close (tie.spec (λ c. search rules) (λ c. search rules) (λ c κs. search rules) (λ c. search rules) (λ c. search rules) (λ c. search rules) (λ c. search rules) (λ c. search rules) slice-aggregate-put-block (λ c. search rules) slice-aggregate-put-block-2 put-block-requires (λ c. search rules) returns)

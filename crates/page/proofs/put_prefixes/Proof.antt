@@ -89,8 +89,8 @@ loop-again c =
       omega (arith, i.1, start_next a.routes.now p),
     )
 
-pub put-prefixes-spec : {M : Type 1} → statement M
-put-prefixes-spec =
+pub put_prefixes_spec : {M : Type 1} → statement M
+put_prefixes_spec =
     tie.close (tie.spec invariant-loop decreases-loop
     (λ c.
     let begun : tie.Start invariant-loop decreases-loop = search rules in

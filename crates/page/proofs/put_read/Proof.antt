@@ -69,6 +69,6 @@ returns-2 c =
     let head = headed put in
     puts_as (puts_then head.put-heading.ensures.0 put.put-prefixes.ensures.0) (ap (lent (begun (told head))) (sym (told head).read2.given.1))
 
-pub put-read-spec : {M : Type 1} → statement M
-put-read-spec =
+pub put_read_spec : {M : Type 1} → statement M
+put_read_spec =
     tie.close (tie.spec (λ c. search rules) (λ c κs. search rules) put-refused-requires (λ c. search rules) put-heading-requires (λ c. search rules) (λ c. search rules) put-prefixes-requires (λ c. search rules) returns (λ c. search rules) returns-2)

@@ -52,8 +52,8 @@ loop-again c =
       p.1,
     )
 
-pub put-routers-spec : {M : Type 1} → statement M
-put-routers-spec =
+pub put_routers_spec : {M : Type 1} → statement M
+put_routers_spec =
     tie.close (tie.spec invariant-loop decreases-loop (λ c. search lined) (λ c. search rules) (λ c. search rules) (λ c. search rules) (λ c. search rules) (λ c. search rules) put-router-requires (λ c. search rules) (λ c. search rules) loop-again (λ c. search rules) (λ c.
     let here : tie.At-loop invariant-loop decreases-loop = search rules in
     let over : tie.After-loop invariant-loop decreases-loop = search rules in

@@ -44,8 +44,8 @@ returns-2 c =
     let a = (begun done).args in
     rendered_text a.input.now a.out.now (long done).if1.left (page_is a.input.now _ refl (bytes done) done.read-snapshot.result _ d.0 d.1) put.put-read.ensures
 
-pub render-spec : {M : Type 1} → statement M
-render-spec =
+pub render_spec : {M : Type 1} → statement M
+render_spec =
     tie.close (tie.spec returns
     (λ c. refl) (λ c. refl) (λ c. refl) (λ c. refl) (λ c. refl) (λ c. refl) (λ c. refl) (λ c. refl) (λ c. refl) (λ c. refl) (λ c. refl) (λ c. refl) (λ c. refl) (λ c. refl)
     (λ c κs. search rules)

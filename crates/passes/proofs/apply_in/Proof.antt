@@ -15,8 +15,8 @@ owners_of u = search rules
 abbrev start_of : tie.After-mark-owners → tie.Start
 start_of m = search rules
 
-pub apply-in-spec : {M : Type 1} → statement M
-apply-in-spec =
+pub apply_in_spec : {M : Type 1} → statement M
+apply_in_spec =
     tie.close
     (tie.spec
     (λ c κs.

@@ -18,8 +18,8 @@ invariant-loop prefixes routes owner₀ row₀ p₀ owner row p =
 abbrev decreases-loop : tie.decreases-loop
 decreases-loop prefixes routes owner₀ row₀ p₀ owner row p = prefixes - p
 
-pub mark-owners-spec : {M : Type 1} → statement M
-mark-owners-spec =
+pub mark_owners_spec : {M : Type 1} → statement M
+mark_owners_spec =
     tie.close
     (tie.spec
     invariant-loop

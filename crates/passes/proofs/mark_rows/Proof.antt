@@ -14,8 +14,8 @@ invariant-loop p row end owner₀ q₀ owner q = (q ≤ end) × Marked p row q o
 abbrev decreases-loop : tie.decreases-loop
 decreases-loop p row end owner₀ q₀ owner q = end - q
 
-pub mark-rows-spec : {M : Type 1} → statement M
-mark-rows-spec =
+pub mark_rows_spec : {M : Type 1} → statement M
+mark_rows_spec =
     tie.close
     (tie.spec
     invariant-loop

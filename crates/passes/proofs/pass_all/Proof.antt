@@ -4,8 +4,8 @@ use native.Mathlib.Omega.{arith}
 use Rattle.passes.proofs.pass_all.Statement.{statement}
 use Rattle.passes.proofs.pass_all.Tie as tie
 
-pub pass-all-spec : {M : Type 1} → statement M
-pass-all-spec =
+pub pass_all_spec : {M : Type 1} → statement M
+pass_all_spec =
     tie.close
     (tie.spec
     (λ c κs. search rules)

@@ -63,8 +63,8 @@ behind p = search rules
 abbrev read : tie.After-take-apart invariant-loop decreases-loop → tie.After-session-at invariant-loop decreases-loop
 read p = search rules
 
-pub pass-in-spec : {M : Type 1} → statement M
-pass-in-spec =
+pub pass_in_spec : {M : Type 1} → statement M
+pass_in_spec =
     tie.close
     (tie.spec
     invariant-loop

@@ -5,8 +5,8 @@ use lib.ListN.{set}
 use Rattle.passes.proofs.rule.Statement.{statement}
 use Rattle.passes.proofs.rule.Tie as tie
 
-pub rule-spec : {M : Type 1} → statement M
-rule-spec =
+pub rule_spec : {M : Type 1} → statement M
+rule_spec =
     tie.close
     (tie.spec
     (λ c. search rules)

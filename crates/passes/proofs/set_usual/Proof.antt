@@ -17,8 +17,8 @@ invariant-loop rows preference₀ q₀ preference q = (q ≤ rows) × Stored 0 (
 abbrev decreases-loop : tie.decreases-loop
 decreases-loop rows preference₀ q₀ preference q = rows - q
 
-pub set-usual-spec : {M : Type 1} → statement M
-set-usual-spec =
+pub set_usual_spec : {M : Type 1} → statement M
+set_usual_spec =
     tie.close
     (tie.spec
     invariant-loop

@@ -40,8 +40,8 @@ room f =
     let r = f.fill-routes.ensures.0 in
     (omega (arith, r), omega (arith, k.1, r))
 
-pub fill-prefixes-spec : {M : Type 1} → statement M
-fill-prefixes-spec =
+pub fill_prefixes_spec : {M : Type 1} → statement M
+fill_prefixes_spec =
     tie.close
     (tie.spec
     invariant-loop

@@ -48,8 +48,8 @@ whole c =
     let l = k.before in
     subst (λ (f : Form). place l + size f ≤ length (bytes l)) (sym (by_kind k)) (route_whole (bytes l) (place l) (stands c))
 
-pub fill-routes-spec : {M : Type 1} → statement M
-fill-routes-spec =
+pub fill_routes_spec : {M : Type 1} → statement M
+fill_routes_spec =
     tie.close
     (tie.spec
     invariant-loop

@@ -18,8 +18,8 @@ returns c =
     let s = start b in
     tables_filled s.args.input.now s.args.n s.args.prefixes (tables s.args.ids.now s.args.distances.now s.args.address.now s.args.bits.now s.args.routes.now (columns s.args.router.now s.args.asn.now s.args.preference.now s.args.path.now s.args.origin.now s.args.mark.now s.args.med.now s.args.nid.now s.args.peer.now)) b.behind_distances_lem.ensures i.fill-ids.ensures d.fill-distances.ensures p.fill-prefixes.ensures
 
-pub fill-tables-spec : {M : Type 1} → statement M
-fill-tables-spec =
+pub fill_tables_spec : {M : Type 1} → statement M
+fill_tables_spec =
     tie.close
     (tie.spec
     (λ c κs. let s : tie.Start = search rules in (s.pre.0.some, s.pre.0.few))

@@ -73,8 +73,8 @@ returns-3 c =
     let a = looked e in
     sound (start a).args.input.now (lent (start a)) (roomy e) (bytes a) (sym k.counts.given.1 ∙ said_is _ j.judge.ensures) f.fill-tables.ensures
 
-pub read-snapshot-spec : {M : Type 1} → statement M
-read-snapshot-spec =
+pub read_snapshot_spec : {M : Type 1} → statement M
+read_snapshot_spec =
     tie.close
     (tie.spec
     (λ c κs. search rules)

@@ -15,5 +15,5 @@ returns c =
     let two : tie.After-put82 = search rules in
     rw (two.put82.ensures, one.put8.ensures) (record_put count_form (a.n ∷ []) a.out.now a.at refl)
 
-pub put-count-spec : {M : Type 1} → statement M
-put-count-spec = tie.close (tie.spec (λ c κs. search rules) (λ c. search rules) (λ c κs. search rules) (λ c. search rules) returns)
+pub put_count_spec : {M : Type 1} → statement M
+put_count_spec = tie.close (tie.spec (λ c κs. search rules) (λ c. search rules) (λ c κs. search rules) (λ c. search rules) returns)

@@ -18,8 +18,8 @@ returns c =
     let four : tie.After-put32 = search rules in
     rw (four.put32.ensures, three.put83.ensures, two.put82.ensures, one.put8.ensures) (record_put distance_form (a.from ∷ a.to ∷ column a.distances.now a.cell ∷ []) a.out.now a.at refl)
 
-pub put-distance-spec : {M : Type 1} → statement M
-put-distance-spec =
+pub put_distance_spec : {M : Type 1} → statement M
+put_distance_spec =
     tie.close
     (tie.spec
     (λ c κs. search rules)

@@ -15,5 +15,5 @@ returns c =
     let two : tie.After-put32 = search rules in
     rw (two.put32.ensures, one.put8.ensures) (record_put end_form (a.records ∷ []) a.out.now a.at refl)
 
-pub put-end-spec : {M : Type 1} → statement M
-put-end-spec = tie.close (tie.spec (λ c κs. search rules) (λ c. search rules) (λ c κs. search rules) (λ c. search rules) returns)
+pub put_end_spec : {M : Type 1} → statement M
+put_end_spec = tie.close (tie.spec (λ c κs. search rules) (λ c. search rules) (λ c κs. search rules) (λ c. search rules) returns)

@@ -16,5 +16,5 @@ returns c =
     let three : tie.After-put82 = search rules in
     rw (three.put82.ensures, two.put32.ensures, one.put8.ensures) (record_put prefix_form (a.address ∷ a.bits ∷ []) a.out.now a.at refl)
 
-pub put-prefix-spec : {M : Type 1} → statement M
-put-prefix-spec = tie.close (tie.spec (λ c κs. search rules) (λ c. search rules) (λ c κs. search rules) (λ c. search rules) (λ c κs. search rules) (λ c. search rules) returns)
+pub put_prefix_spec : {M : Type 1} → statement M
+put_prefix_spec = tie.close (tie.spec (λ c κs. search rules) (λ c. search rules) (λ c κs. search rules) (λ c. search rules) (λ c κs. search rules) (λ c. search rules) returns)

@@ -48,5 +48,5 @@ returns c =
     let three : tie.After-put-route-back = search rules in
     route_put (route (start_of one)) one.put-route-front.ensures two.put-route-middle.ensures three.put-route-back.ensures
 
-pub put-route-spec : {M : Type 1} → statement M
-put-route-spec = tie.close (tie.spec put-route-front-requires put-route-middle-requires put-route-back-requires (λ c. search rules) returns)
+pub put_route_spec : {M : Type 1} → statement M
+put_route_spec = tie.close (tie.spec put-route-front-requires put-route-middle-requires put-route-back-requires (λ c. search rules) returns)

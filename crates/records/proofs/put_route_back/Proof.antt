@@ -24,8 +24,8 @@ returns c =
       place = refl;
     }
 
-pub put-route-back-spec : {M : Type 1} → statement M
-put-route-back-spec =
+pub put_route_back_spec : {M : Type 1} → statement M
+put_route_back_spec =
     tie.close
     (tie.spec
     (λ c. search rules)

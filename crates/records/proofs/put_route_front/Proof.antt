@@ -62,8 +62,8 @@ returns-2 c =
     front_put (column a.router.now a.row) (column a.asn.now a.row) false (sym here.if1.left ∙ told.four-byte.ensures)
     (kind.route-kind.ensures ∙ ap (λ (b : Bool). (route_form_by b).kind) here.if1.left) one.put8.ensures two.put82.ensures three.put16.ensures refl
 
-pub put-route-front-spec : {M : Type 1} → statement M
-put-route-front-spec =
+pub put_route_front_spec : {M : Type 1} → statement M
+put_route_front_spec =
     tie.close
     (tie.spec
     (λ c. search rules)

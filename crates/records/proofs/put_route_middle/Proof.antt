@@ -35,8 +35,8 @@ returns c =
       place = refl;
     }
 
-pub put-route-middle-spec : {M : Type 1} → statement M
-put-route-middle-spec =
+pub put_route_middle_spec : {M : Type 1} → statement M
+put_route_middle_spec =
     tie.close
     (tie.spec
     (λ c. search rules)

@@ -16,5 +16,5 @@ returns c =
     let three : tie.After-put32 = search rules in
     rw (three.put32.ensures, two.put82.ensures, one.put8.ensures) (record_put router_form (a.index ∷ a.id ∷ []) a.out.now a.at refl)
 
-pub put-router-spec : {M : Type 1} → statement M
-put-router-spec = tie.close (tie.spec (λ c κs. search rules) (λ c. search rules) (λ c κs. search rules) (λ c. search rules) (λ c κs. search rules) (λ c. search rules) returns)
+pub put_router_spec : {M : Type 1} → statement M
+put_router_spec = tie.close (tie.spec (λ c κs. search rules) (λ c. search rules) (λ c κs. search rules) (λ c. search rules) (λ c κs. search rules) (λ c. search rules) returns)

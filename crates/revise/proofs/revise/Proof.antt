@@ -35,8 +35,8 @@ returns-2 c =
     revises_long a.snapshot.now a.policy.now a.out.now (omega (arith, (long done).if1.left))
     (revises_after a.snapshot.now a.policy.now a.out.now _ tt (bytes done) (omega (arith, (long done).if1.left)) done.read-snapshot.result d.0 d.1 w.rewrite-read.ensures)
 
-pub revise-spec : {M : Type 1} → statement M
-revise-spec =
+pub revise_spec : {M : Type 1} → statement M
+revise_spec =
     tie.close
     (tie.spec
     (λ c. let s : tie.Start = search rules in revises_short s.args.snapshot.now s.args.policy.now s.args.out.now c.if1.true)

@@ -56,8 +56,8 @@ returns-3 c =
     λ x enough valid held fits.
     (rewrites_done s.args.counts (lent s) _ s.args.policy.now s.args.out.now a.apply-policy.result a.apply-policy.ensures x enough valid held (bytes a) e.enum_told.given.1 w.write-snapshot.result w.write-snapshot.ensures fits).1
 
-pub rewrite-spec : {M : Type 1} → statement M
-rewrite-spec =
+pub rewrite_spec : {M : Type 1} → statement M
+rewrite_spec =
     tie.close
     (tie.spec
     (λ c κs. search rules)

@@ -17,8 +17,8 @@ returns-2 c =
     let w : tie.After-rewrite = search rules in
     after_accepted (told_of w).read2.given.1 w.rewrite.ensures
 
-pub rewrite-read-spec : {M : Type 1} → statement M
-rewrite-read-spec =
+pub rewrite_read_spec : {M : Type 1} → statement M
+rewrite_read_spec =
     tie.close
     (tie.spec
     (λ c. search rules)

@@ -9,5 +9,5 @@ cast-result c =
     let start : tie.Start = search rules in
     omega (arith, c.shared-slice-known.given start.args.i)
 
-pub at-spec : {M : Type 1} → statement M
-at-spec = tie.close (tie.spec (λ c. search rules) (λ c. search rules) cast-result (λ c. search rules))
+pub at_spec : {M : Type 1} → statement M
+at_spec = tie.close (tie.spec (λ c. search rules) (λ c. search rules) cast-result (λ c. search rules))

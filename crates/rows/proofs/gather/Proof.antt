@@ -19,6 +19,6 @@ key-at-requires c κs =
     let turn : tie.In-loop invariant-loop decreases-loop = search rules in
     (turn.loop-test.taken, start.pre.0.below _ turn.loop-test.taken)
 
-pub gather-spec : {M : Type 1} → statement M
-gather-spec =
+pub gather_spec : {M : Type 1} → statement M
+gather_spec =
     tie.close (tie.spec invariant-loop decreases-loop (λ c. search (stored, rules)) key-at-requires (λ c. search rules) (λ c. search rules) (λ c. search rules) (λ c. search rules) (λ c. search stored_next) (λ c. search rules) (λ c. search stored_end))

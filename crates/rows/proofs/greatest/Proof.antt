@@ -18,6 +18,6 @@ key-at-requires c κs =
     let start : tie.Start invariant-loop decreases-loop = search rules in
     (search rules, start.pre.below _ c.loop-test.true)
 
-pub greatest-spec : {M : Type 1} → statement M
-greatest-spec =
+pub greatest_spec : {M : Type 1} → statement M
+greatest_spec =
     tie.close (tie.spec invariant-loop decreases-loop (λ c. search higher) key-at-requires (λ c. search rules) (λ c. search rules) (λ c. search higher_on) (λ c. search rules) (λ c. search rules) (λ c. search higher_off) (λ c. search higher_end))

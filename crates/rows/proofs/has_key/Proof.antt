@@ -3,5 +3,5 @@ use borrow.Author.Rules.{rules}
 use Rattle.rows.proofs.has_key.Statement.{statement}
 use Rattle.rows.proofs.has_key.Tie as tie
 
-pub has-key-spec : {M : Type 1} → statement M
-has-key-spec = tie.close (tie.spec (λ c κs. search rules) (λ c. rw c.key-at.ensures))
+pub has_key_spec : {M : Type 1} → statement M
+has_key_spec = tie.close (tie.spec (λ c κs. search rules) (λ c. rw c.key-at.ensures))

@@ -13,6 +13,6 @@ invariant-loop rows₀ i₀ i-end rows i = Stored 0 (λ k. k) (length rows₀) r
 abbrev decreases-loop : tie.decreases-loop
 decreases-loop rows₀ i₀ i-end rows i = length rows₀ - i
 
-pub keep-all-spec : {M : Type 1} → statement M
-keep-all-spec =
+pub keep_all_spec : {M : Type 1} → statement M
+keep_all_spec =
     tie.close (tie.spec invariant-loop decreases-loop (λ c. search (stored, rules)) (λ c. search rules) (λ c. search rules) (λ c. search rules) (λ c. search rules) (λ c. search rules) (λ c. search stored_next) (λ c. search rules) (λ c. search all_listed))

@@ -21,6 +21,6 @@ has-key-requires c κs =
     let turn : tie.In-loop invariant-loop decreases-loop = search rules in
     (search rules, rw (squeeze_here at.loop.inv) (start.pre.below _ turn.loop-test.taken))
 
-pub keep-equal-spec : {M : Type 1} → statement M
-keep-equal-spec =
+pub keep_equal_spec : {M : Type 1} → statement M
+keep_equal_spec =
     tie.close (tie.spec invariant-loop decreases-loop (λ c. search squeeze) (λ c. search rules) (λ c. search rules) has-key-requires (λ c. search rules) (λ c. search rules) (λ c. search rules) (λ c. search rules) (λ c. search rules) (λ c. search squeeze_on) (λ c. search rules) (λ c. search rules) (λ c. search squeeze_off) (λ c. search rules) (λ c. search pack_end))

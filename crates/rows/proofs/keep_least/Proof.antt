@@ -24,6 +24,6 @@ returns c =
     ∙ sym (keep_least_lem past_keys key (λ q. omega (arith, known.shared-slice-known.given q)) rows)
     )
 
-pub keep-least-spec : {M : Type 1} → statement M
-keep-least-spec =
+pub keep_least_spec : {M : Type 1} → statement M
+keep_least_spec =
     tie.close (tie.spec (λ c κs. search rules) (λ c κs. search rules) (λ c. search rules) returns)

@@ -11,5 +11,5 @@ returns c =
     let row : tie.After-at = search rules in
     ap (column start.args.key.now) row.at.ensures
 
-pub key-at-spec : {M : Type 1} → statement M
-key-at-spec = tie.close (tie.spec (λ c κs. search rules) (λ c. search rules) (λ c. search rules) returns)
+pub key_at_spec : {M : Type 1} → statement M
+key_at_spec = tie.close (tie.spec (λ c κs. search rules) (λ c. search rules) (λ c. search rules) returns)

@@ -19,6 +19,6 @@ key-at-requires c κs =
     let start : tie.Start invariant-loop decreases-loop = search rules in
     (search rules, start.pre.below _ c.loop-test.true)
 
-pub least-spec : {M : Type 1} → statement M
-least-spec =
+pub least_spec : {M : Type 1} → statement M
+least_spec =
     tie.close (tie.spec invariant-loop decreases-loop (λ c. search lower) key-at-requires (λ c. search rules) (λ c. search rules) (λ c. search lower_on) (λ c. search rules) (λ c. search rules) (λ c. search lower_off) (λ c. search lower_end))

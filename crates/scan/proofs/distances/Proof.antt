@@ -14,8 +14,8 @@ invariant-loop input n c₀ from₀ c from = Rows input n from c
 abbrev decreases-loop : tie.decreases-loop
 decreases-loop input n c₀ from₀ c from = n - from
 
-pub distances-spec : {M : Type 1} → statement M
-distances-spec =
+pub distances_spec : {M : Type 1} → statement M
+distances_spec =
     tie.close
     (tie.spec
     invariant-loop

@@ -14,8 +14,8 @@ invariant-loop input c₀ k₀ c k = Items input c k
 abbrev decreases-loop : tie.decreases-loop
 decreases-loop input c₀ k₀ c k = length input - c.at
 
-pub items-spec : {M : Type 1} → statement M
-items-spec =
+pub items_spec : {M : Type 1} → statement M
+items_spec =
     tie.close
     (tie.spec
     invariant-loop

@@ -10,8 +10,8 @@ use Rattle.scan.specs.ScanLaws.{said_told, count_stop, count_next, items_start}
 use Rattle.scan.proofs.judge.Statement.{statement}
 use Rattle.scan.proofs.judge.Tie as tie
 
-pub judge-spec : {M : Type 1} → statement M
-judge-spec =
+pub judge_spec : {M : Type 1} → statement M
+judge_spec =
     tie.close
     (tie.spec
     (λ c κs. lit≤ tt)

@@ -20,8 +20,8 @@ asked c = let k : tie.After-kind-at = search rules in c.route-stands.ensures ∙
 route : (c : tie.Then2) → let s : tie.Start = search rules in T (stands route_forms (get_or s.args.input.now s.args.c.at 0))
 route c = subst T (sym c.if2.true ∙ asked (search rules)) tt
 
-pub one-item-spec : {M : Type 1} → statement M
-one-item-spec =
+pub one_item_spec : {M : Type 1} → statement M
+one_item_spec =
     tie.close
     (tie.spec
     (λ c κs. search rules)

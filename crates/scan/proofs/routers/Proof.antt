@@ -13,8 +13,8 @@ invariant-loop input n first c₀ i₀ c i = Routers input n first i c
 abbrev decreases-loop : tie.decreases-loop
 decreases-loop input n first c₀ i₀ c i = n - i
 
-pub routers-spec : {M : Type 1} → statement M
-routers-spec =
+pub routers_spec : {M : Type 1} → statement M
+routers_spec =
     tie.close
     (tie.spec
     invariant-loop

@@ -13,8 +13,8 @@ invariant-loop input n from c₀ to₀ c to = Row input n from to c
 abbrev decreases-loop : tie.decreases-loop
 decreases-loop input n from c₀ to₀ c to = n - to
 
-pub row-spec : {M : Type 1} → statement M
-row-spec =
+pub row_spec : {M : Type 1} → statement M
+row_spec =
     tie.close
     (tie.spec
     invariant-loop

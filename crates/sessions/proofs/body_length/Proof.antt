@@ -3,8 +3,8 @@ use borrow.Author.Tests.{ne_eqb}
 use Rattle.sessions.proofs.body_length.Statement.{statement}
 use Rattle.sessions.proofs.body_length.Tie as tie
 
-pub body-length-spec : {M : Type 1} → statement M
-body-length-spec =
+pub body_length_spec : {M : Type 1} → statement M
+body_length_spec =
     tie.close
     (tie.spec
     (λ c. rw c.match.keys1)

@@ -15,8 +15,8 @@ use Rattle.sessions.specs.SessionsLaws.{at_kind, no_faults}
 use Rattle.sessions.proofs.faults.Statement.{statement}
 use Rattle.sessions.proofs.faults.Tie as tie
 
-pub faults-spec : {M : Type 1} → statement M
-faults-spec =
+pub faults_spec : {M : Type 1} → statement M
+faults_spec =
     tie.close
     (tie.spec
     (λ c. search rules)

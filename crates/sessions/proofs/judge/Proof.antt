@@ -15,8 +15,8 @@ invariant-loop input c₀ k₀ c k = Known input c k
 abbrev decreases-loop : tie.decreases-loop
 decreases-loop input c₀ k₀ c k = length input - c.at
 
-pub judge-spec : {M : Type 1} → statement M
-judge-spec =
+pub judge_spec : {M : Type 1} → statement M
+judge_spec =
     tie.close
     (tie.spec
     invariant-loop

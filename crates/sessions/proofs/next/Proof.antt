@@ -8,8 +8,8 @@ use Rattle.sessions.specs.SessionsLaws.{at_kind, next_clause}
 use Rattle.sessions.proofs.next.Statement.{statement}
 use Rattle.sessions.proofs.next.Tie as tie
 
-pub next-spec : {M : Type 1} → statement M
-next-spec =
+pub next_spec : {M : Type 1} → statement M
+next_spec =
     tie.close
     (tie.spec
     (λ c. search rules)

@@ -5,8 +5,8 @@ use Rattle.sessions.specs.SessionsLaws.{session_listed, exact_listed, direct_lis
 use Rattle.sessions.proofs.one_record.Statement.{statement}
 use Rattle.sessions.proofs.one_record.Tie as tie
 
-pub one-record-spec : {M : Type 1} → statement M
-one-record-spec =
+pub one_record_spec : {M : Type 1} → statement M
+one_record_spec =
     tie.close
     (tie.spec
     (λ c κs. search rules)

@@ -8,8 +8,8 @@ use Rattle.sessions.specs.Sessions.{astray_of, full_of}
 use Rattle.sessions.proofs.opening.Statement.{statement}
 use Rattle.sessions.proofs.opening.Tie as tie
 
-pub opening-spec : {M : Type 1} → statement M
-opening-spec =
+pub opening_spec : {M : Type 1} → statement M
+opening_spec =
     tie.close
     (tie.spec
     (λ c κs. search rules)

@@ -10,8 +10,8 @@ use Rattle.cursor.specs.declared.Finding.TheVariants.{Clear, Fault}
 use Rattle.sessions.proofs.session_faults.Statement.{statement}
 use Rattle.sessions.proofs.session_faults.Tie as tie
 
-pub session-faults-spec : {M : Type 1} → statement M
-session-faults-spec =
+pub session_faults_spec : {M : Type 1} → statement M
+session_faults_spec =
     tie.close
     (tie.spec
     (λ c κs. search rules)

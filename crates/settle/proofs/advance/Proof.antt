@@ -95,8 +95,8 @@ loop-again-2 c =
     let l = turn.loop-test.taken in
     (turn_next turn.before.loop.inv.0 l, moved_one turn.before.loop.inv.1 l (found asked))
 
-pub advance-spec : {M : Type 1} → statement M
-advance-spec =
+pub advance_spec : {M : Type 1} → statement M
+advance_spec =
     tie.close (tie.spec invariant-loop decreases-loop (λ c. search (turn, moved, rules)) (λ c. search rules) (λ c. search rules) cast-to add-to
     mul-first-spared (λ c. search rules) (λ c. search rules) part-first-spared-end mul-first-spared-2 (λ c. search rules) (λ c. search rules) part-first-spared-end-2
     first-spared-requires (λ c. search rules) (λ c. search rules) (λ c. search rules) (λ c. search rules) loop-again (λ c. search rules) (λ c. search rules) (λ c. search rules) (λ c. search rules) loop-again-2 (λ c. search rules) (λ c. moved_end c.before.loop.invariant.1 c.loop-test.false))

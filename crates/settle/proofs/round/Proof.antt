@@ -31,6 +31,6 @@ returns c =
       done.advance.ensures.1,
     )
 
-pub round-spec : {M : Type 1} → statement M
-round-spec =
+pub round_spec : {M : Type 1} → statement M
+round_spec =
     tie.close (tie.spec (λ c κs. search rules) (λ c. search rules) (λ c κs. search rules) (λ c. search rules) (λ c κs. search rules) (λ c. search rules) returns)

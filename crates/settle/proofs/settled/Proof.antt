@@ -20,6 +20,6 @@ returns c =
     done.settle.ensures
     ∙ ap (λ (x : List ℕ). times (round_by (beats_by (column a.group.now) (column a.med.now)) (own_places a.ends.now) (length a.ends.now)) (length a.group.now) x) started.start.ensures
 
-pub settled-spec : {M : Type 1} → statement M
-settled-spec =
+pub settled_spec : {M : Type 1} → statement M
+settled_spec =
     tie.close (tie.spec (λ c κs. search rules) (λ c κs. search rules) (λ c. search rules) returns)

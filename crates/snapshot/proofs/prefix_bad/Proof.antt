@@ -8,8 +8,8 @@ use Rattle.model.specs.NumberLaws.{shifted}
 use Rattle.snapshot.proofs.prefix_bad.Statement.{statement}
 use Rattle.snapshot.proofs.prefix_bad.Tie as tie
 
-pub prefix-bad-spec : {M : Type 1} → statement M
-prefix-bad-spec =
+pub prefix_bad_spec : {M : Type 1} → statement M
+prefix_bad_spec =
     tie.close
     (tie.spec
     (λ c. simp (lt-ltb _ _ c.if1.true))

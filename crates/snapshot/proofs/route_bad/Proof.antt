@@ -3,5 +3,5 @@ use borrow.Author.Rules.{rules}
 use Rattle.snapshot.proofs.route_bad.Statement.{statement}
 use Rattle.snapshot.proofs.route_bad.Tie as tie
 
-pub route-bad-spec : {M : Type 1} → statement M
-route-bad-spec = tie.close (tie.spec (λ c κs. search rules) (λ c. cc))
+pub route_bad_spec : {M : Type 1} → statement M
+route_bad_spec = tie.close (tie.spec (λ c κs. search rules) (λ c. cc))

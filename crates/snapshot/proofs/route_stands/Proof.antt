@@ -6,5 +6,5 @@ use lib.Dec.{eqb}
 use Rattle.snapshot.proofs.route_stands.Statement.{statement}
 use Rattle.snapshot.proofs.route_stands.Tie as tie
 
-pub route-stands-spec : {M : Type 1} → statement M
-route-stands-spec = tie.close (tie.spec (λ c κs. search rules) (λ c. ap (λ (k : ℕ). eqb c.before.args.kind k) c.route-kind.ensures))
+pub route_stands_spec : {M : Type 1} → statement M
+route_stands_spec = tie.close (tie.spec (λ c κs. search rules) (λ c. ap (λ (k : ℕ). eqb c.before.args.kind k) c.route-kind.ensures))

@@ -141,8 +141,8 @@ returns c =
       late_rows = done.rest-rows.ensures.1 ∙ rest_is listed true _ _ ∙ rest_late (routers listed) (t listed) (fits listed);
     }
 
-pub own-rows-spec : {M : Type 1} → statement M
-own-rows-spec =
+pub own_rows_spec : {M : Type 1} → statement M
+own_rows_spec =
     tie.close (tie.spec (λ c κs. search rules) (λ c κs. search rules) (λ c κs. search rules) (λ c κs. search rules) (λ c κs. search rules)
     (λ c. search rules) (λ c. simp length-take (omega arith)) (λ c. search rules) (λ c. simp length-take (omega arith)) (λ c. search rules) (λ c. simp length-take (omega arith)) contenders-requires
     array-share-prefix-order slice-aggregate-rest-rows array-borrow-prefix-meds slice-aggregate-rest-rows-2 array-borrow-prefix-group slice-aggregate-rest-rows-3

@@ -10,6 +10,6 @@ rest-in-requires c κs =
     let start : tie.Start = search rules in
     (start.pre.0, (start.pre.1.0, simp length-take (omega (arith, start.pre.0.few)), start.pre.1.1))
 
-pub rest-spec : {M : Type 1} → statement M
-rest-spec =
+pub rest_spec : {M : Type 1} → statement M
+rest_spec =
     tie.close (tie.spec (λ c κs. search rules) (λ c. search rules) (λ c. simp length-take (omega arith)) rest-in-requires (λ c. search rules) (λ c. search rules))

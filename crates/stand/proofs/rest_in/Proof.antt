@@ -25,6 +25,6 @@ returns c =
     let a = start.args in
     done.rows_at.ensures ∙ ap (λ (x : List ℕ). table (length a.ends.now) (stands_at a.order.now a.ends.now x)) led.settled.ensures
 
-pub rest-in-spec : {M : Type 1} → statement M
-rest-in-spec =
+pub rest_in_spec : {M : Type 1} → statement M
+rest_in_spec =
     tie.close (tie.spec (λ c κs. search rules) rows-at-requires (λ c. search rules) (λ c. search rules) returns)

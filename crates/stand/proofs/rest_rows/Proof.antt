@@ -111,6 +111,6 @@ returns c =
     let grouped = grouped-of first in
     (first.rest.ensures ∙ rest_is grouped false, second.rest2.ensures ∙ rest_is grouped true)
 
-pub rest-rows-spec : {M : Type 1} → statement M
-rest-rows-spec =
+pub rest_rows_spec : {M : Type 1} → statement M
+rest_rows_spec =
     tie.close (tie.spec ends-requires gather-requires groups-requires rest-requires rest-requires-2 (λ c. search rules) (λ c. search rules) (λ c. search rules) (λ c. search rules) (λ c. search rules) returns)

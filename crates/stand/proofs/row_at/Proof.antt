@@ -19,5 +19,5 @@ returns-2 c =
     let past : tie.Else1 = search rules in
     sym (get_or-eq_default start.args.rows.now none past.if1.left)
 
-pub row-at-spec : {M : Type 1} → statement M
-row-at-spec = tie.close (tie.spec (λ c. search rules) (λ c. search rules) returns returns-2)
+pub row_at_spec : {M : Type 1} → statement M
+row_at_spec = tie.close (tie.spec (λ c. search rules) (λ c. search rules) returns returns-2)

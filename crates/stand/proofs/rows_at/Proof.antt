@@ -54,6 +54,6 @@ loop-again c =
     let l = turn.loop-test.taken in
     (turn_next at.inv.0 l, stored_next at.inv.1 l (found.row_at.ensures ∙ ap (λ (rows : List ℕ). get_or rows (column (start_of turn).args.state.now at.r) none) (turn_own at.inv.0 (start_of turn).args.order.now)))
 
-pub rows-at-spec : {M : Type 1} → statement M
-rows-at-spec =
+pub rows_at_spec : {M : Type 1} → statement M
+rows_at_spec =
     tie.close (tie.spec invariant-loop decreases-loop (λ c. search (turn, stored, rules)) (λ c. search rules) (λ c. search rules) cast-to add-to mul-row-at (λ c. search rules) (λ c. search rules) part-row-at-end (λ c. search rules) (λ c. search rules) (λ c κs. search rules) (λ c. search rules) (λ c. search rules) (λ c. search rules) (λ c. search rules) loop-again (λ c. search rules) (λ c. stored_end c.before.loop.invariant.1 c.loop-test.false))

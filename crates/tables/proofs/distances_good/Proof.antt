@@ -13,8 +13,8 @@ invariant-loop n distances from₀ from = SoFar (λ from. Below n (CellGood dist
 abbrev decreases-loop : tie.decreases-loop
 decreases-loop n distances from₀ from = n - from
 
-pub distances-good-spec : {M : Type 1} → statement M
-distances-good-spec =
+pub distances_good_spec : {M : Type 1} → statement M
+distances_good_spec =
     tie.close
     (tie.spec
     invariant-loop

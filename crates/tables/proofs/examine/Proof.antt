@@ -26,8 +26,8 @@ start_of c = search rules
 enough : (c : tie.Else1) → T (none (short (lent (start_of c))))
 enough c = none_any (short (lent (start_of c))) (sym c.before.lacks-room.ensures ∙ c.if1.false)
 
-pub examine-spec : {M : Type 1} → statement M
-examine-spec =
+pub examine_spec : {M : Type 1} → statement M
+examine_spec =
     tie.close
     (tie.spec
     (λ c κs. search rules)

@@ -14,8 +14,8 @@ invariant-loop n distances first found₀ i₀ found i = Looked (ltb farthest) (
 abbrev decreases-loop : tie.decreases-loop
 decreases-loop n distances first found₀ i₀ found i = n - i
 
-pub far-spec : {M : Type 1} → statement M
-far-spec =
+pub far_spec : {M : Type 1} → statement M
+far_spec =
     tie.close
     (tie.spec
     invariant-loop

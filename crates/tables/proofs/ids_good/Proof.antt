@@ -13,8 +13,8 @@ invariant-loop n ids k₀ k = SoFar (IdGood ids) n k
 abbrev decreases-loop : tie.decreases-loop
 decreases-loop n ids k₀ k = n - k
 
-pub ids-good-spec : {M : Type 1} → statement M
-ids-good-spec =
+pub ids_good_spec : {M : Type 1} → statement M
+ids_good_spec =
     tie.close
     (tie.spec
     invariant-loop

@@ -4,8 +4,8 @@ use borrow.Author.Tests.{eq-eqb, ne_eqb}
 use Rattle.tables.proofs.late_at.Statement.{statement}
 use Rattle.tables.proofs.late_at.Tie as tie
 
-pub late-at-spec : {M : Type 1} → statement M
-late-at-spec =
+pub late_at_spec : {M : Type 1} → statement M
+late_at_spec =
     tie.close
     (tie.spec
     (λ c. rw (eq-eqb _ _ c.if1.true))

@@ -28,8 +28,8 @@ returns-2 c =
     prefix_good a.routers (lent start) a.p a.at start.pre.3 past.before.before.prefix_bad.ensures past.before.late-at.ensures
     (omega (arith, known.shared-slice-known14.given a.p)) past.if1.false c.routes_good.ensures
 
-pub prefix-good-spec : {M : Type 1} → statement M
-prefix-good-spec =
+pub prefix_good_spec : {M : Type 1} → statement M
+prefix_good_spec =
     tie.close
     (tie.spec
     (λ c. search rules)

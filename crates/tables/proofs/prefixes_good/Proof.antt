@@ -16,8 +16,8 @@ invariant-loop counts address bits routes router asn preference path origin mark
 abbrev decreases-loop : tie.decreases-loop
 decreases-loop counts address bits routes router asn preference path origin mark med nid peer at₀ p₀ at p = counts.prefixes - p
 
-pub prefixes-good-spec : {M : Type 1} → statement M
-prefixes-good-spec =
+pub prefixes_good_spec : {M : Type 1} → statement M
+prefixes_good_spec =
     tie.close
     (tie.spec
     invariant-loop

@@ -37,8 +37,8 @@ words s q =
       peer = omega (arith, s.shared-slice-known9.given q);
     }
 
-pub routes-good-spec : {M : Type 1} → statement M
-routes-good-spec =
+pub routes_good_spec : {M : Type 1} → statement M
+routes_good_spec =
     tie.close
     (tie.spec
     invariant-loop

@@ -5,8 +5,8 @@ use Rattle.tables.specs.JudgeLaws.{row_decides}
 use Rattle.tables.proofs.row_good.Statement.{statement}
 use Rattle.tables.proofs.row_good.Tie as tie
 
-pub row-good-spec : {M : Type 1} → statement M
-row-good-spec =
+pub row_good_spec : {M : Type 1} → statement M
+row_good_spec =
     tie.close
     (tie.spec
     (λ c. search rules)

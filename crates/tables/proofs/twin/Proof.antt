@@ -14,8 +14,8 @@ invariant-loop ids k id found₀ i₀ found i = Looked (eqb id) (column ids) k i
 abbrev decreases-loop : tie.decreases-loop
 decreases-loop ids k id found₀ i₀ found i = k - i
 
-pub twin-spec : {M : Type 1} → statement M
-twin-spec =
+pub twin_spec : {M : Type 1} → statement M
+twin_spec =
     tie.close
     (tie.spec
     invariant-loop

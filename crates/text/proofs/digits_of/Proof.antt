@@ -11,6 +11,6 @@ invariant-loop n k₀ rest₀ k rest = Tried n k rest
 abbrev decreases-loop : tie.decreases-loop
 decreases-loop n k₀ rest₀ k rest = rest
 
-pub digits-of-spec : {M : Type 1} → statement M
-digits-of-spec =
+pub digits_of_spec : {M : Type 1} → statement M
+digits_of_spec =
     tie.close (tie.spec invariant-loop decreases-loop (λ c. search tried) (λ c. omega (arith, tried_fits c.before.loop.invariant c.loop-test.true)) (λ c. div-lt_self c.loop-test.true (lit< tt)) (λ c. search tried_next) (λ c. tried_end c.before.loop.invariant c.loop-test.false))

@@ -5,8 +5,8 @@ use Rattle.text.specs.TextLaws.{puts_decimal, length_decimal}
 use Rattle.text.proofs.put_decimal.Statement.{statement}
 use Rattle.text.proofs.put_decimal.Tie as tie
 
-pub put-decimal-spec : {M : Type 1} → statement M
-put-decimal-spec =
+pub put_decimal_spec : {M : Type 1} → statement M
+put_decimal_spec =
     tie.close (tie.spec (λ c κs. search rules) (λ c κs.
     let counted : tie.After-digits-of = search rules in
     let start : tie.Start = search rules in

@@ -10,6 +10,6 @@ invariant-loop out₀ at n k left₀ rest₀ out left rest = Spelt out₀ n at k
 abbrev decreases-loop : tie.decreases-loop
 decreases-loop out₀ at n k left₀ rest₀ out left rest = left
 
-pub put-digits-spec : {M : Type 1} → statement M
-put-digits-spec =
+pub put_digits_spec : {M : Type 1} → statement M
+put_digits_spec =
     tie.close (tie.spec invariant-loop decreases-loop (λ c. search spelt) (λ c. search rules) (λ c. search rules) (λ c. search rules) (λ c. search rules) (λ c. omega arith) (λ c. search rules) (λ c. search spelt_next) (λ c. omega arith) (λ c. search spelt_end))

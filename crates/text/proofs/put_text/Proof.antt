@@ -12,6 +12,6 @@ invariant-loop out₀ at text k₀ out k = Copied out₀ text at k out
 abbrev decreases-loop : tie.decreases-loop
 decreases-loop out₀ at text k₀ out k = length text - k
 
-pub put-text-spec : {M : Type 1} → statement M
-put-text-spec =
+pub put_text_spec : {M : Type 1} → statement M
+put_text_spec =
     tie.close (tie.spec invariant-loop decreases-loop (λ c. search copied) (λ c. search rules) (λ c. search rules) (λ c. omega arith) (λ c. search rules) (λ c. search rules) (λ c. search copied_next) (λ c. search rules) (λ c. omega arith) (λ c. search copied_end))

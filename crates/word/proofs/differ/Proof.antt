@@ -11,5 +11,5 @@ returns c =
     let a = start.args in
     rw (get_or_inside a.early.now a.r none 0 start.pre.0, get_or_inside a.late.now a.r none 0 start.pre.1)
 
-pub differ-spec : {M : Type 1} → statement M
-differ-spec = tie.close (tie.spec (λ c. search rules) (λ c. search rules) (λ c. search rules) (λ c. search rules) returns)
+pub differ_spec : {M : Type 1} → statement M
+differ_spec = tie.close (tie.spec (λ c. search rules) (λ c. search rules) (λ c. search rules) (λ c. search rules) returns)

@@ -30,6 +30,6 @@ loop-again c =
     let differs : tie.Then1 invariant-loop decreases-loop = search rules in
     marked_on at.loop.inv turn.loop-test.taken tested.differ.ensures (omega (arith, turn.loop-test.taken, start.pre.0)) differs.if1.taken refl
 
-pub differing-spec : {M : Type 1} → statement M
-differing-spec =
+pub differing_spec : {M : Type 1} → statement M
+differing_spec =
     tie.close (tie.spec invariant-loop decreases-loop (λ c. search marked) (λ c κs. search rules) (λ c. search rules) add-bits (λ c. search rules) (λ c. search rules) loop-again (λ c. search rules) (λ c. search rules) (λ c. search marked_off) (λ c. search marked_end))

@@ -6,8 +6,8 @@ use Rattle.writer.specs.WritingLaws.{pairs_most}
 use Rattle.writer.proofs.pair_count.Statement.{statement}
 use Rattle.writer.proofs.pair_count.Tie as tie
 
-pub pair-count-spec : {M : Type 1} → statement M
-pair-count-spec =
+pub pair_count_spec : {M : Type 1} → statement M
+pair_count_spec =
     tie.close
     (tie.spec
     (λ c. search rules)

@@ -12,8 +12,8 @@ invariant-loop n distances out₀ first at₀ from₀ out at from = Section (row
 abbrev decreases-loop : tie.decreases-loop
 decreases-loop n distances out₀ first at₀ from₀ out at from = n - from
 
-pub put-distances-spec : {M : Type 1} → statement M
-put-distances-spec =
+pub put_distances_spec : {M : Type 1} → statement M
+put_distances_spec =
     tie.close
     (tie.spec
     invariant-loop

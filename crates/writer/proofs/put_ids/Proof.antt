@@ -15,8 +15,8 @@ invariant-loop n ids out₀ first at₀ k₀ out at k = Section (ids_from ids n)
 abbrev decreases-loop : tie.decreases-loop
 decreases-loop n ids out₀ first at₀ k₀ out at k = n - k
 
-pub put-ids-spec : {M : Type 1} → statement M
-put-ids-spec =
+pub put_ids_spec : {M : Type 1} → statement M
+put_ids_spec =
     tie.close
     (tie.spec
     invariant-loop

@@ -40,8 +40,8 @@ returns c =
     let three : tie.After-put-distances = search rules in
     puts_append {xs = written count_form (a.n ∷ [])} (record { same = one.put_count.ensures; place = refl }) (puts_append two.put-ids.ensures three.put-distances.ensures)
 
-pub put-network-spec : {M : Type 1} → statement M
-put-network-spec =
+pub put_network_spec : {M : Type 1} → statement M
+put_network_spec =
     tie.close
     (tie.spec
     (λ c. search rules)

@@ -43,8 +43,8 @@ returns c =
     let two : tie.After-put-routes = search rules in
     puts_append {xs = written prefix_form (column t.address p ∷ column t.bits p ∷ [])} (record { same = one.put-prefix.ensures; place = refl }) two.put-routes.ensures
 
-pub put-prefix-spec : {M : Type 1} → statement M
-put-prefix-spec =
+pub put_prefix_spec : {M : Type 1} → statement M
+put_prefix_spec =
     tie.close
     (tie.spec
     (λ c. search rules)

@@ -27,8 +27,8 @@ lent s =
     (columns s.args.router.now s.args.asn.now s.args.preference.now s.args.path.now s.args.origin.now
     s.args.mark.now s.args.med.now s.args.nid.now s.args.peer.now)
 
-pub put-prefixes-spec : {M : Type 1} → statement M
-put-prefixes-spec =
+pub put_prefixes_spec : {M : Type 1} → statement M
+put_prefixes_spec =
     tie.close
     (tie.spec
     invariant-loop

@@ -22,8 +22,8 @@ abbrev lent : tie.Start invariant-loop decreases-loop → Columns
 lent start =
     columns start.args.router.now start.args.asn.now start.args.preference.now start.args.path.now start.args.origin.now start.args.mark.now start.args.med.now start.args.nid.now start.args.peer.now
 
-pub put-routes-spec : {M : Type 1} → statement M
-put-routes-spec =
+pub put_routes_spec : {M : Type 1} → statement M
+put_routes_spec =
     tie.close
     (tie.spec
     invariant-loop

@@ -14,8 +14,8 @@ invariant-loop n distances from out₀ first at₀ to₀ out at to = Section (ro
 abbrev decreases-loop : tie.decreases-loop
 decreases-loop n distances from out₀ first at₀ to₀ out at to = n - to
 
-pub put-row-spec : {M : Type 1} → statement M
-put-row-spec =
+pub put_row_spec : {M : Type 1} → statement M
+put_row_spec =
     tie.close
     (tie.spec
     invariant-loop

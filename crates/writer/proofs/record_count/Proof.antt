@@ -5,8 +5,8 @@ use Rattle.writer.specs.WritingLaws.{routers_range}
 use Rattle.writer.proofs.record_count.Statement.{statement}
 use Rattle.writer.proofs.record_count.Tie as tie
 
-pub record-count-spec : {M : Type 1} → statement M
-record-count-spec =
+pub record_count_spec : {M : Type 1} → statement M
+record_count_spec =
     tie.close
     (tie.spec
     (λ c κs. let start : tie.Start = search rules in routers_range start.pre)

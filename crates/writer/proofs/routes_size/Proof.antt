@@ -12,8 +12,8 @@ invariant-loop n asn total₀ k₀ total k = Summed asn n k total
 abbrev decreases-loop : tie.decreases-loop
 decreases-loop n asn total₀ k₀ total k = n - k
 
-pub routes-size-spec : {M : Type 1} → statement M
-routes-size-spec =
+pub routes_size_spec : {M : Type 1} → statement M
+routes_size_spec =
     tie.close
     (tie.spec
     invariant-loop

@@ -4,8 +4,8 @@ use Rattle.writer.specs.WritingLaws.{routers_range}
 use Rattle.writer.proofs.size.Statement.{statement}
 use Rattle.writer.proofs.size.Tie as tie
 
-pub size-spec : {M : Type 1} → statement M
-size-spec =
+pub size_spec : {M : Type 1} → statement M
+size_spec =
     tie.close
     (tie.spec
     (λ c κs. let start : tie.Start = search rules in routers_range start.pre.0)

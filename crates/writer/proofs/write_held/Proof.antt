@@ -61,8 +61,8 @@ space c =
     let s = start_of c in
     writes_space s.args.counts (lent s) s.args.out.now s.pre.0 s.pre.1 (omega (arith, c.if1.false, c.before.size.ensures))
 
-pub write-held-spec : {M : Type 1} → statement M
-write-held-spec =
+pub write_held_spec : {M : Type 1} → statement M
+write_held_spec =
     tie.close
     (tie.spec
     (λ c κs. let start : tie.Start = search rules in ((parts start).range, (room start).prefixes.rows.asn))

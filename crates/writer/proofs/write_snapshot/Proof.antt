@@ -32,8 +32,8 @@ returns c =
     let start = start_of seen in
     writes_no start.args.counts (lent start) start.args.out.now bound.r.given.1 seen.examine.ensures
 
-pub write-snapshot-spec : {M : Type 1} → statement M
-write-snapshot-spec =
+pub write_snapshot_spec : {M : Type 1} → statement M
+write_snapshot_spec =
     tie.close
     (tie.spec
     (λ c κs. search rules)

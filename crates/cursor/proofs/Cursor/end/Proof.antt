@@ -9,8 +9,8 @@ use Rattle.cursor.specs.StepsLaws.{end_table}
 use Rattle.cursor.proofs.Cursor.end.Statement.{statement}
 use Rattle.cursor.proofs.Cursor.end.Tie as tie
 
-pub end-spec : {M : Type 1} → statement M
-end-spec =
+pub end_spec : {M : Type 1} → statement M
+end_spec =
     tie.close
     (tie.spec
     (λ c κs. search rules)

@@ -25,8 +25,8 @@ clear c = let o : tie.After-opens = search rules in sym c.enum_told.given.1 ∙ 
 whole : (c : tie.After-enum-told) → let s = start c in s.args.self.at + 4 < length s.args.input.now
 whole c = let s = start c in opened_by s.args.input.now s.args.self.at 6 false false s.args.body 4 s.pre (clear c)
 
-pub ends-spec : {M : Type 1} → statement M
-ends-spec =
+pub ends_spec : {M : Type 1} → statement M
+ends_spec =
     tie.close
     (tie.spec
     (λ c κs. search rules)

@@ -7,8 +7,8 @@ use Rattle.cursor.specs.StepsLaws.{opening_table}
 use Rattle.cursor.proofs.Cursor.opening.Statement.{statement}
 use Rattle.cursor.proofs.Cursor.opening.Tie as tie
 
-pub opening-spec : {M : Type 1} → statement M
-opening-spec =
+pub opening_spec : {M : Type 1} → statement M
+opening_spec =
     tie.close
     (tie.spec
     (λ c κs. search rules)

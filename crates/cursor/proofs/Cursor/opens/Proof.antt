@@ -11,8 +11,8 @@ use Rattle.cursor.specs.StepsLaws.{room_left, opening_cut, opening_more}
 use Rattle.cursor.proofs.Cursor.opens.Statement.{statement}
 use Rattle.cursor.proofs.Cursor.opens.Tie as tie
 
-pub opens-spec : {M : Type 1} → statement M
-opens-spec =
+pub opens_spec : {M : Type 1} → statement M
+opens_spec =
     tie.close
     (tie.spec
     (λ c. let s : tie.Start = search rules in let a = s.args in opening_cut a.input.now a.self.at a.due a.astray a.full a.body c.if1.true)

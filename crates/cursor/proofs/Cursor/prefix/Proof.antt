@@ -30,9 +30,9 @@ clear c = let o : tie.After-opening = search rules in sym c.enum_told.given.1 �
 whole : (c : tie.After-enum-told) → let s = start c in s.args.self.at + body_length forms 4 < length s.args.input.now
 whole c = let s = start c in opened forms s.args.input.now s.args.self.at 4 (false) (leb most_prefixes s.args.k.prefixes) (clear c)
 
-pub prefix-spec : {M : Type 1} → statement M
+pub prefix_spec : {M : Type 1} → statement M
 unfolding prefix_next
-prefix-spec =
+prefix_spec =
     tie.close
     (tie.spec
     (λ c κs. search rules)

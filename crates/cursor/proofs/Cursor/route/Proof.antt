@@ -72,9 +72,9 @@ found c =
 sized : (c : tie.After-route-size) → c.route_size_lem.result ≡ size (form (search rules))
 sized c = c.route_size_lem.ensures ∙ ap size (by_kind (search rules))
 
-pub route-spec : {M : Type 1} → statement M
+pub route_spec : {M : Type 1} → statement M
 unfolding route_next
-route-spec =
+route_spec =
     tie.close
     (tie.spec
     (λ c κs. search rules)

@@ -28,9 +28,9 @@ clear c = let o : tie.After-opening = search rules in sym c.enum_told.given.1 �
 whole : (c : tie.After-enum-told) → let s = start c in s.args.self.at + body_length forms 2 < length s.args.input.now
 whole c = let s = start c in opened forms s.args.input.now s.args.self.at 2 (false) (false) (clear c)
 
-pub router-spec : {M : Type 1} → statement M
+pub router_spec : {M : Type 1} → statement M
 unfolding router_record
-router-spec =
+router_spec =
     tie.close
     (tie.spec
     (λ c κs. search rules)
