@@ -128,7 +128,7 @@ module _ (past : ℕ) (key : ℕ → ℕ) (bound : (q : ℕ) → key q ≤ past)
 
   pub keep_least_lem : (rows : List ℕ) → keep_least key rows ≡ keep (λ q. eqb (key q) (least_or past key rows)) rows
   keep_least_lem [] = refl
-  keep_least_lem (q ∷ rows) = rw (least_is q rows)
+  keep_least_lem (q ∷ rows) = ap (λ (low : ℕ). keep (λ p. eqb (key p) low) (q ∷ rows)) (least_is q rows)
 
 -- ---- keys that agree on the members
 
