@@ -2,7 +2,6 @@
 // number and place.
 #![tactic(auto)]
 ghost use Rattle.std.specs.Prelude.{T};
-ghost use Rattle.model.specs.Lent.{was, is};
 ghost use Rattle.snapshot.specs.Ranges.{none};
 ghost use Rattle.snapshot.specs.Tables.{columns, tables, short};
 ghost use Rattle.tables.specs.Judging.{Holding};
@@ -41,8 +40,8 @@ fn apply_held(
 ) -> Applied
     requires { T (none (short (tables ids.now distances.now address.now bits.now routes.now (columns router.now asn.now preference.old path.now origin.now mark.old med.old nid.now peer.now))))
         × Holding counts (tables ids.now distances.now address.now bits.now routes.now (columns router.now asn.now preference.old path.now origin.now mark.old med.old nid.now peer.now)) }
-    ensures { Applies counts (tables (was ids) (was distances) (was address) (was bits) (was routes) (columns (was router) (was asn) (was preference) (was path) (was origin) (was mark) (was med) (was nid) (was peer))) (was policy) (said result)
-        (tables (was ids) (was distances) (was address) (was bits) (was routes) (columns (was router) (was asn) (is preference) (was path) (was origin) (is mark) (is med) (was nid) (was peer))) }
+    ensures { Applies counts (tables ids.now distances.now address.now bits.now routes.now (columns router.now asn.now preference.old path.now origin.now mark.old med.old nid.now peer.now)) policy.now (said result)
+        (tables ids.now distances.now address.now bits.now routes.now (columns router.now asn.now preference.new path.now origin.now mark.new med.new nid.now peer.now)) }
 {
     match sessions::judge(policy) {
         Judged::Refused(r, at) => Applied::Refused(r, at),
@@ -87,8 +86,8 @@ pub fn apply_policy(
     nid: &[u32],
     peer: &[u32],
 ) -> Applied
-    ensures { Applies counts (tables (was ids) (was distances) (was address) (was bits) (was routes) (columns (was router) (was asn) (was preference) (was path) (was origin) (was mark) (was med) (was nid) (was peer))) (was policy) (said result)
-        (tables (was ids) (was distances) (was address) (was bits) (was routes) (columns (was router) (was asn) (is preference) (was path) (was origin) (is mark) (is med) (was nid) (was peer))) }
+    ensures { Applies counts (tables ids.now distances.now address.now bits.now routes.now (columns router.now asn.now preference.old path.now origin.now mark.old med.old nid.now peer.now)) policy.now (said result)
+        (tables ids.now distances.now address.now bits.now routes.now (columns router.now asn.now preference.new path.now origin.now mark.new med.new nid.now peer.now)) }
 {
     match tables::examine(
         counts, ids, distances, address, bits, routes, router, asn, preference, path, origin, mark,

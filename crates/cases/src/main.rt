@@ -6,7 +6,6 @@
 // from document 01, and tests/cases holds it against what `second` says of the files.
 #![tactic(auto)]
 ghost use Rattle.std.specs.Prelude.{◌≡◌, ◌++◌, suc, ◌+◌, ◌≤◌, length};
-ghost use Rattle.model.specs.Lent.{was, is};
 ghost use Rattle.snapshot.specs.Limits.{most_routes, longest};
 ghost use Rattle.snapshot.specs.Tables.{columns, tables};
 ghost use Rattle.tables.specs.Judging.{Decides};
@@ -55,7 +54,7 @@ fn written_as(
     again: &mut [u8],
 ) -> bool
     requires { length input.now ≤ length again.old }
-    ensures { Decides (Written (was input) counts (tables (was ids) (was distances) (was address) (was bits) (was routes) (columns (was router) (was asn) (was preference) (was path) (was origin) (was mark) (was med) (was nid) (was peer)))) result }
+    ensures { Decides (Written input.now counts (tables ids.now distances.now address.now bits.now routes.now (columns router.now asn.now preference.now path.now origin.now mark.now med.now nid.now peer.now))) result }
 {
     match writer::write_snapshot(
         counts, ids, distances, address, bits, routes, router, asn, preference, path, origin, mark,
@@ -104,7 +103,7 @@ fn compared(
 // Finds out about a snapshot's bytes, with tables of its own but for that of the peers.
 fn examined(input: &[u8], peer: &mut [u32]) -> Finding
     requires { length input.now ≤ suc longest }
-    ensures { result ≡ found (was input) (length (was peer)) }
+    ensures { result ≡ found input.now (length peer.old) }
 {
     let mut ids = [0u32; snapshot::MOST_ROUTERS as usize];
     let mut distances = [0u32; snapshot::ROOM_DISTANCES];
@@ -161,7 +160,7 @@ fn examined(input: &[u8], peer: &mut [u32]) -> Finding
 // Puts a number behind a blank.
 fn put_count(out: &mut [u8], at: usize, n: u32) -> usize
     requires { at + 11 ≤ length out.old }
-    ensures { Puts (was out) (is out) at result (ascii " " ++ decimal n) × (result ≤ at + 11) }
+    ensures { Puts out.old out.new at result (ascii " " ++ decimal n) × (result ≤ at + 11) }
 {
     let next = put_text(out, at, b" ");
     put_decimal(out, next, n as u64)
@@ -170,7 +169,7 @@ fn put_count(out: &mut [u8], at: usize, n: u32) -> usize
 // Puts what was found of a snapshot that was accepted.
 fn put_accepted(out: &mut [u8], at: usize, counts: Counts, same: bool) -> usize
     requires { at + widest ≤ length out.old }
-    ensures { Puts (was out) (is out) at result (accepted_line counts same) × (result ≤ at + widest) }
+    ensures { Puts out.old out.new at result (accepted_line counts same) × (result ≤ at + widest) }
 {
     let word = put_text(out, at, b"accepted");
     let routers = put_count(out, word, counts.routers);
@@ -185,7 +184,7 @@ fn put_accepted(out: &mut [u8], at: usize, counts: Counts, same: bool) -> usize
 // Puts the line of a file with these bytes.
 fn put_line(out: &mut [u8], name: &[u8], input: &[u8], peer: &mut [u32]) -> usize
     requires { (length name.now + 1 + widest ≤ length out.old) × (length input.now ≤ suc longest) }
-    ensures { Puts (was out) (is out) 0 result (was name ++ ascii " " ++ finding_line (found (was input) (length (was peer)))) × (result ≤ length (was name) + 1 + widest) }
+    ensures { Puts out.old out.new 0 result (name.now ++ ascii " " ++ finding_line (found input.now (length peer.old))) × (result ≤ length name.now + 1 + widest) }
 {
     let named = put_text(out, 0, name);
     let at = put_text(out, named, b" ");

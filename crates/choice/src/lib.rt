@@ -3,7 +3,7 @@
 ghost use Rattle.std.specs.Prelude.{◌≡◌, cond, ◌||◌, ℕ, ◌+◌, ◌*◌, ◌≤◌, ◌<◌, length, get_or, eqb};
 ghost use Rattle.model.specs.Rows.{keep, some, span, column, keep_least, keep_greatest};
 ghost use Rattle.model.specs.Decision.{none, beats_by, unbeaten_by};
-ghost use Rattle.model.specs.Lent.{was, is, col, Inside, Front, Packed, after_two};
+ghost use Rattle.model.specs.Lent.{Inside, Front, Packed, after_two};
 ghost use Rattle.model.specs.Columns.{most_routers, most_rows, columns, choice_of, distance_in, Placed};
 
 // The row that a router chooses, or none.
@@ -15,7 +15,7 @@ pub struct Chosen {
 // Whether the route q is available to r: it is r's own, or its owner holds it.
 fn offered(router: &[u32], held: &[u16], q: usize, r: u32) -> bool
     requires { (q < length router.now) × (column router.now q < length held.now) }
-    ensures { result ≡ (eqb (col router q) r || eqb (get_or (was held) (col router q) none) q) }
+    ensures { result ≡ (eqb (column router.now q) r || eqb (get_or held.now (column router.now q) none) q) }
 {
     let owner = router[q] as usize;
     let row = held[owner] as usize;
@@ -26,7 +26,7 @@ fn offered(router: &[u32], held: &[u16], q: usize, r: u32) -> bool
 // router's own. They are listed at the front of `rows`, so many.
 fn available(router: &[u32], held: &[u16], r: u32, rows: &mut [u16]) -> usize
     requires { (length router.now ≤ most_rows) × (length rows.old ≡ length router.now) × ((q : ℕ) → q < length router.now → column router.now q < length held.now) }
-    ensures { Front result (is rows) (keep (λ q. eqb (col router q) r || eqb (get_or (was held) (col router q) none) q) (span 0 (length (was router)))) }
+    ensures { Front result rows.new (keep (λ q. eqb (column router.now q) r || eqb (get_or held.now (column router.now q) none) q) (span 0 (length router.now))) }
 {
     let mut n: usize = 0;
     for q in 0..router.len() {
@@ -42,7 +42,7 @@ fn available(router: &[u32], held: &[u16], r: u32, rows: &mut [u16]) -> usize
 // 1. The highest local preference.
 fn highest_preference(preference: &[u32], rows: &mut [u16]) -> usize
     requires { Inside (length preference.now) rows.old }
-    ensures { Packed result (was rows) (is rows) (keep_greatest (col preference) (was rows)) }
+    ensures { Packed result rows.old rows.new (keep_greatest (column preference.now) rows.old) }
 {
     let high = rows::greatest(preference, rows);
     rows::keep_equal(preference, rows, high)
@@ -51,7 +51,7 @@ fn highest_preference(preference: &[u32], rows: &mut [u16]) -> usize
 // 2. The shortest AS path.
 fn shortest_path(path: &[u32], rows: &mut [u16]) -> usize
     requires { Inside (length path.now) rows.old }
-    ensures { Packed result (was rows) (is rows) (keep_least (col path) (was rows)) }
+    ensures { Packed result rows.old rows.new (keep_least (column path.now) rows.old) }
 {
     rows::keep_least(path, rows)
 }
@@ -59,7 +59,7 @@ fn shortest_path(path: &[u32], rows: &mut [u16]) -> usize
 // 3. The lowest origin (0 IGP, 1 EGP, 2 incomplete).
 fn lowest_origin(origin: &[u32], rows: &mut [u16]) -> usize
     requires { Inside (length origin.now) rows.old }
-    ensures { Packed result (was rows) (is rows) (keep_least (col origin) (was rows)) }
+    ensures { Packed result rows.old rows.new (keep_least (column origin.now) rows.old) }
 {
     rows::keep_least(origin, rows)
 }
@@ -67,7 +67,7 @@ fn lowest_origin(origin: &[u32], rows: &mut [u16]) -> usize
 // Steps 1 to 3.
 pub fn preferred(preference: &[u32], path: &[u32], origin: &[u32], rows: &mut [u16]) -> usize
     requires { Inside (length preference.now) rows.old × Inside (length path.now) rows.old × Inside (length origin.now) rows.old }
-    ensures { Packed result (after_two (col preference) (col path) (was rows)) (is rows) (keep_least (col origin) (keep_least (col path) (keep_greatest (col preference) (was rows)))) }
+    ensures { Packed result (after_two (column preference.now) (column path.now) rows.old) rows.new (keep_least (column origin.now) (keep_least (column path.now) (keep_greatest (column preference.now) rows.old))) }
 {
     let high = highest_preference(preference, rows);
     let short = shortest_path(path, &mut rows[..high]);
@@ -77,7 +77,7 @@ pub fn preferred(preference: &[u32], path: &[u32], origin: &[u32], rows: &mut [u
 // Whether the row p has the same neighbour AS as q and a lower MED.
 fn beats(asn: &[u32], med: &[u32], p: usize, q: usize) -> bool
     requires { (p < length asn.now) × (q < length asn.now) × (p < length med.now) × (q < length med.now) }
-    ensures { result ≡ beats_by (col asn) (col med) p q }
+    ensures { result ≡ beats_by (column asn.now) (column med.now) p q }
 {
     (asn[p] == asn[q]) & (med[p] < med[q])
 }
@@ -86,7 +86,7 @@ fn beats(asn: &[u32], med: &[u32], p: usize, q: usize) -> bool
 // has a lower MED. It looks at the whole kept list, so its answer goes into another.
 pub fn unbeaten(asn: &[u32], med: &[u32], rows: &[u16], left: &mut [u16]) -> usize
     requires { Inside (length asn.now) rows.now × Inside (length med.now) rows.now × (length rows.now ≤ length left.old) }
-    ensures { Packed result (was left) (is left) (unbeaten_by (beats_by (col asn) (col med)) (was rows) (was rows)) }
+    ensures { Packed result left.old left.new (unbeaten_by (beats_by (column asn.now) (column med.now)) rows.now rows.now) }
 {
     let mut n: usize = 0;
     for i in 0..rows.len() {
@@ -111,7 +111,7 @@ pub fn unbeaten(asn: &[u32], med: &[u32], rows: &[u16], left: &mut [u16]) -> usi
 // Whether any listed row is of the router r.
 fn any_own(router: &[u32], rows: &[u16], r: u32) -> bool
     requires { Inside (length router.now) rows.now }
-    ensures { result ≡ some (λ q. eqb (col router q) r) (was rows) }
+    ensures { result ≡ some (λ q. eqb (column router.now q) r) rows.now }
 {
     for i in 0..rows.len() {
         if rows::has_key(router, rows, i, r) {
@@ -124,7 +124,7 @@ fn any_own(router: &[u32], rows: &[u16], r: u32) -> bool
 // 5. The router's own routes, if any is kept.
 fn own_if_any(router: &[u32], r: u32, rows: &mut [u16]) -> usize
     requires { Inside (length router.now) rows.old }
-    ensures { Front result (is rows) (cond (some (λ q. eqb (col router q) r) (was rows)) (keep (λ q. eqb (col router q) r) (was rows)) (was rows)) }
+    ensures { Front result rows.new (cond (some (λ q. eqb (column router.now q) r) rows.old) (keep (λ q. eqb (column router.now q) r) rows.old) rows.old) }
 {
     if any_own(router, rows, r) {
         return rows::keep_equal(router, rows, r);
@@ -142,7 +142,7 @@ fn pick(test: bool, yes: u32, no: u32) -> u32
 // The interior distance from r to the router that owns the route q (0 for one's own).
 fn far(router: &[u32], distances: &[u32], q: usize, r: u32) -> u32
     requires { (q < length router.now) × (column router.now q < most_routers) × (r < most_routers) × (most_routers * most_routers ≤ length distances.now) }
-    ensures { result ≡ cond (eqb (col router q) r) 0 (distance_in (was distances) r (col router q)) }
+    ensures { result ≡ cond (eqb (column router.now q) r) 0 (distance_in distances.now r (column router.now q)) }
 {
     let owner = router[q] as usize;
     let at = (r as usize) * rows::MOST_ROUTERS + owner;
@@ -158,7 +158,7 @@ fn lowest_distance(
     rows: &mut [u16],
 ) -> usize
     requires { Inside (length router.now) rows.old × (length key.old ≡ length router.now) × ((q : ℕ) → q < length router.now → column router.now q < most_routers) × (r < most_routers) × (most_routers * most_routers ≤ length distances.now) }
-    ensures { Front result (is rows) (keep_least (λ q. cond (eqb (col router q) r) 0 (distance_in (was distances) r (col router q))) (was rows)) }
+    ensures { Front result rows.new (keep_least (λ q. cond (eqb (column router.now q) r) 0 (distance_in distances.now r (column router.now q))) rows.old) }
 {
     for i in 0..rows.len() {
         let q = rows::at(rows, i);
@@ -170,7 +170,7 @@ fn lowest_distance(
 // The neighbour's id for an own route, the owning router's id otherwise.
 fn tie_id(router: &[u32], nid: &[u32], ids: &[u32], q: usize, r: u32) -> u32
     requires { (q < length router.now) × (q < length nid.now) × (column router.now q < length ids.now) }
-    ensures { result ≡ cond (eqb (col router q) r) (col nid q) (col ids (col router q)) }
+    ensures { result ≡ cond (eqb (column router.now q) r) (column nid.now q) (column ids.now (column router.now q)) }
 {
     let owner = router[q] as usize;
     pick(router[q] == r, nid[q], ids[owner])
@@ -186,7 +186,7 @@ fn lowest_id(
     rows: &mut [u16],
 ) -> usize
     requires { Inside (length router.now) rows.old × (length nid.now ≡ length router.now) × (length key.old ≡ length router.now) × ((q : ℕ) → q < length router.now → column router.now q < length ids.now) }
-    ensures { Front result (is rows) (keep_least (λ q. cond (eqb (col router q) r) (col nid q) (col ids (col router q))) (was rows)) }
+    ensures { Front result rows.new (keep_least (λ q. cond (eqb (column router.now q) r) (column nid.now q) (column ids.now (column router.now q))) rows.old) }
 {
     for i in 0..rows.len() {
         let q = rows::at(rows, i);
@@ -198,7 +198,7 @@ fn lowest_id(
 // 8. The lowest peer address.
 fn lowest_peer(peer: &[u32], rows: &mut [u16]) -> usize
     requires { Inside (length peer.now) rows.old }
-    ensures { Packed result (was rows) (is rows) (keep_least (col peer) (was rows)) }
+    ensures { Packed result rows.old rows.new (keep_least (column peer.now) rows.old) }
 {
     rows::keep_least(peer, rows)
 }
@@ -216,7 +216,7 @@ fn nearest(
 ) -> usize
     requires inside { Inside (length router.now) rows.old × (length nid.now ≡ length router.now) × (length peer.now ≡ length router.now) × (length key.old ≡ length router.now) }
     requires most_routers_in_bounds { (most_routers * most_routers ≤ length distances.now) × (r < most_routers) × ((q : ℕ) → q < length router.now → (column router.now q < most_routers) × (column router.now q < length ids.now)) }
-    ensures { Front result (is rows) (keep_least (col peer) (keep_least (λ q. cond (eqb (col router q) r) (col nid q) (col ids (col router q))) (keep_least (λ q. cond (eqb (col router q) r) 0 (distance_in (was distances) r (col router q))) (was rows)))) }
+    ensures { Front result rows.new (keep_least (column peer.now) (keep_least (λ q. cond (eqb (column router.now q) r) (column nid.now q) (column ids.now (column router.now q))) (keep_least (λ q. cond (eqb (column router.now q) r) 0 (distance_in distances.now r (column router.now q))) rows.old))) }
 {
     let near = lowest_distance(router, distances, r, key, rows);
     let low = lowest_id(router, nid, ids, r, key, &mut rows[..near]);
@@ -243,7 +243,7 @@ fn choose_in(
 ) -> Chosen
     requires placed { Placed (length held.now) ids.now distances.now (columns router.now asn.now preference.now path.now origin.now med.now nid.now peer.now) }
     requires r_in_bounds { (r < length held.now) × (length key.old ≡ length router.now) × (length rows.old ≡ length router.now) × (length left.old ≡ length router.now) }
-    ensures { result.row ≡ choice_of (length (was held)) (was ids) (was distances) (columns (was router) (was asn) (was preference) (was path) (was origin) (was med) (was nid) (was peer)) (was held) r }
+    ensures { result.row ≡ choice_of (length held.now) ids.now distances.now (columns router.now asn.now preference.now path.now origin.now med.now nid.now peer.now) held.now r }
 {
     let offers = available(router, held, r, rows);
     let kept = preferred(preference, path, origin, &mut rows[..offers]);
@@ -272,7 +272,7 @@ pub fn choose(
 ) -> Chosen
     requires placed { Placed (length held.now) ids.now distances.now (columns router.now asn.now preference.now path.now origin.now med.now nid.now peer.now) }
     requires r_in_bounds { r < length held.now }
-    ensures { result.row ≡ choice_of (length (was held)) (was ids) (was distances) (columns (was router) (was asn) (was preference) (was path) (was origin) (was med) (was nid) (was peer)) (was held) r }
+    ensures { result.row ≡ choice_of (length held.now) ids.now distances.now (columns router.now asn.now preference.now path.now origin.now med.now nid.now peer.now) held.now r }
 {
     let mut key = rows::past();
     let mut kept = rows::unlisted();

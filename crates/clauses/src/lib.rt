@@ -1,7 +1,6 @@
 // A policy file that was judged sound is walked again to apply it: its sessions, their clauses taken apart, and the first that fits.
 #![tactic(auto)]
 ghost use Rattle.std.specs.Prelude.{◌≡◌, true, ◌+◌, ◌≤◌, length, take};
-ghost use Rattle.model.specs.Lent.{was, is};
 ghost use Rattle.policy.specs.Policy.{most_clauses};
 ghost use Rattle.policy.specs.Rewriting.{fits, preferred};
 ghost use Rattle.clauses.specs.Walking.{clause_at, size_at, length_at, is_clause, clauses_from, behind_clauses, clause_by, apart, Wide, is_session, named_at, Parts, Apart};
@@ -33,7 +32,7 @@ const MOST_CLAUSES: usize = policy::MOST_CLAUSES as usize;
 // Whether a session's record stands at a place.
 pub fn is_session(policy: &[u8], at: usize) -> bool
     requires { at ≤ length policy.now }
-    ensures { result ≡ is_session (was policy) at }
+    ensures { result ≡ is_session policy.now at }
 {
     let kind = cursor::kind_at(policy, at);
     (kind == 1) & (at + policy::SESSION_SIZE <= policy.len())
@@ -42,7 +41,7 @@ pub fn is_session(policy: &[u8], at: usize) -> bool
 // The session at a place.
 pub fn session_at(policy: &[u8], at: usize) -> Named
     requires { is_session policy.now at ≡ true }
-    ensures { result ≡ named_at (was policy) at }
+    ensures { result ≡ named_at policy.now at }
 {
     let behind = at + policy::SESSION_SIZE;
     let zero = cursor::kind_at(policy, behind) == 5;
@@ -56,7 +55,7 @@ pub fn session_at(policy: &[u8], at: usize) -> Named
 
 // The bytes of the clause at a place.
 fn clause_size(policy: &[u8], at: usize) -> usize
-    ensures { result ≡ size_at (was policy) at }
+    ensures { result ≡ size_at policy.now at }
 {
     let kind = cursor::kind_at(policy, at);
     if kind == 2 {
@@ -71,7 +70,7 @@ fn clause_size(policy: &[u8], at: usize) -> usize
 // Whether a clause's record stands at a place.
 fn is_clause(policy: &[u8], at: usize) -> bool
     requires { at ≤ length policy.now }
-    ensures { result ≡ is_clause (was policy) at }
+    ensures { result ≡ is_clause policy.now at }
 {
     let kind = cursor::kind_at(policy, at);
     let known = (kind == 2) | (kind == 3) | (kind == 4);
@@ -81,7 +80,7 @@ fn is_clause(policy: &[u8], at: usize) -> bool
 // The prefix length of the clause at a place, where it is one for a prefix.
 fn length_at(policy: &[u8], at: usize) -> u32
     requires { is_clause policy.now at ≡ true }
-    ensures { result ≡ length_at (was policy) at }
+    ensures { result ≡ length_at policy.now at }
 {
     if policy[at] == 2 {
         return wire::get8(policy, at + 5);
@@ -92,7 +91,7 @@ fn length_at(policy: &[u8], at: usize) -> u32
 // The clause at a place, that ends before the next, taken apart. Every clause has four bytes behind its kind.
 fn row_at(policy: &[u8], at: usize, next: usize) -> Row
     requires { (is_clause policy.now at ≡ true) × (next ≡ at + size_at policy.now at) }
-    ensures { Parts (clause_at (was policy) at) result.kind result.key result.long result.gives }
+    ensures { Parts (clause_at policy.now at) result.kind result.key result.long result.gives }
 {
     Row {
         kind: wire::get8(policy, at),
@@ -113,8 +112,8 @@ pub fn take_apart(
     gives: &mut [u32],
 ) -> usize
     requires { (at ≤ length policy.now) × Wide most_clauses kind.old key.old long.old gives.old }
-    ensures { (apart (is kind) (is key) (is long) (is gives) result ≡ take most_clauses (clauses_from (was policy) at)) × (result ≤ most_clauses)
-        × Apart (take most_clauses (clauses_from (was policy) at)) (was kind) (was key) (was long) (was gives) result (is kind) (is key) (is long) (is gives) }
+    ensures { (apart kind.new key.new long.new gives.new result ≡ take most_clauses (clauses_from policy.now at)) × (result ≤ most_clauses)
+        × Apart (take most_clauses (clauses_from policy.now at)) kind.old key.old long.old gives.old result kind.new key.new long.new gives.new }
 {
     let mut at = at;
     let mut n = 0;
@@ -168,7 +167,7 @@ pub fn preferred(
     neighbour: u32,
 ) -> u32
     requires { Wide count kind.now key.now long.now gives.now }
-    ensures { result ≡ preferred (apart (was kind) (was key) (was long) (was gives) count) address bits path neighbour }
+    ensures { result ≡ preferred (apart kind.now key.now long.now gives.now count) address bits path neighbour }
 {
     let mut k = 0;
     while k < count {
@@ -183,7 +182,7 @@ pub fn preferred(
 // The place behind the clauses that stand from a place on.
 pub fn behind_clauses(policy: &[u8], at: usize) -> usize
     requires { at ≤ length policy.now }
-    ensures { (result ≡ behind_clauses (was policy) at) × (result ≤ length (was policy)) }
+    ensures { (result ≡ behind_clauses policy.now at) × (result ≤ length policy.now) }
 {
     let mut at = at;
     while is_clause(policy, at) {

@@ -2,7 +2,6 @@
 #![tactic(auto)]
 ghost use Rattle.std.specs.Prelude.{◌≡◌, length};
 ghost use Rattle.model.specs.Columns.{columns, lent_mesh, Placed};
-ghost use Rattle.model.specs.Lent.{was, is};
 ghost use Rattle.decide.specs.Decide.{Decided};
 
 // The routers whose early and late rows differ: bit r for router r, and how many there are.
@@ -29,7 +28,7 @@ pub fn decided(
     late: &mut [u16],
 ) -> Differing
     requires { Placed (length early.old) ids.now distances.now (columns router.now asn.now preference.now path.now origin.now med.now nid.now peer.now) × (length late.old ≡ length early.old) }
-    ensures { Decided (lent_mesh (length (was early)) (was ids) (was distances) (columns (was router) (was asn) (was preference) (was path) (was origin) (was med) (was nid) (was peer))) result (is early) (is late) }
+    ensures { Decided (lent_mesh (length early.old) ids.now distances.now (columns router.now asn.now preference.now path.now origin.now med.now nid.now peer.now)) result early.new late.new }
 {
     hold::forecast_rows(
         router, asn, preference, path, origin, med, nid, peer, ids, distances, early, late,

@@ -3,7 +3,6 @@
 ghost use Rattle.std.specs.Prelude.{◌≡◌, cond, ◌∷◌, [], ◌+◌, ◌-◌, ◌*◌, ◌≤◌, ◌<◌, leb, length, get_or, set};
 ghost use Rattle.std.proofs.lemmas.List.Edits.{sets};
 ghost use Rattle.model.specs.Rows.{table};
-ghost use Rattle.model.specs.Lent.{was, is};
 ghost use Rattle.snapshot.specs.Limits.{most_routers, room_distances};
 ghost use Rattle.snapshot.specs.Plain.{route_is};
 ghost use Rattle.snapshot.specs.Tables.{columns, put_routes, Wide};
@@ -18,7 +17,7 @@ const FIRST_DISTANCE: usize = snapshot::COUNT_SIZE + 3;
 // Puts the ids of n routers into the front of a table.
 pub fn fill_ids(input: &[u8], n: usize, ids: &mut [u32])
     requires { Spans input.now n × (most_routers ≤ length ids.old) }
-    ensures { is ids ≡ sets (was ids) 0 (ids_in (was input) n) }
+    ensures { ids.new ≡ sets ids.old 0 (ids_in input.now n) }
 {
     let mut i = 0;
     while i < n {
@@ -48,7 +47,7 @@ fn before_in_row(from: usize, to: usize) -> usize
 // The distance from one of n routers to another, 0 from one to itself.
 fn distance_in(input: &[u8], n: usize, from: usize, to: usize) -> u32
     requires { Spans input.now n × (from < n) × (to < n) }
-    ensures { result ≡ distance_in (was input) n from to }
+    ensures { result ≡ distance_in input.now n from to }
 {
     if from == to {
         return 0;
@@ -63,7 +62,7 @@ fn distance_in(input: &[u8], n: usize, from: usize, to: usize) -> u32
 // Puts the distances of n routers into a table, from times the stride, plus to; equal pairs hold 0.
 pub fn fill_distances(input: &[u8], n: usize, distances: &mut [u32])
     requires { Spans input.now n × (room_distances ≤ length distances.old) }
-    ensures { is distances ≡ table (length (was distances)) (entry_in (was input) n (was distances)) }
+    ensures { distances.new ≡ table (length distances.old) (entry_in input.now n distances.old) }
 {
     let stride = snapshot::STRIDE;
     let end = n * stride;
@@ -97,8 +96,8 @@ pub fn put_route(
     peer: &mut [u32],
 )
     requires { Wide (row + 1) (columns router.old asn.old preference.old path.old origin.old mark.old med.old nid.old peer.old) }
-    ensures { columns (is router) (is asn) (is preference) (is path) (is origin) (is mark) (is med) (is nid) (is peer)
-        ≡ put_routes (columns (was router) (was asn) (was preference) (was path) (was origin) (was mark) (was med) (was nid) (was peer)) row (route_is r ∷ []) }
+    ensures { columns router.new asn.new preference.new path.new origin.new mark.new med.new nid.new peer.new
+        ≡ put_routes (columns router.old asn.old preference.old path.old origin.old mark.old med.old nid.old peer.old) row (route_is r ∷ []) }
 {
     router[row] = r.router;
     asn[row] = r.asn;
@@ -114,7 +113,7 @@ pub fn put_route(
 // Whether a whole route record stands at a place, given the kind byte there.
 pub fn is_route(input: &[u8], at: usize, kind: u8) -> bool
     requires { (at ≤ length input.now) × (kind ≡ get_or input.now at 0) }
-    ensures { result ≡ is_route (was input) at }
+    ensures { result ≡ is_route input.now at }
 {
     let size = snapshot::route_size(kind == 7);
     snapshot::route_stands(kind) & (at + size <= input.len())
@@ -130,7 +129,7 @@ pub fn put_prefix(
     routes: &mut [u32],
 )
     requires { (p < length address.old) × (p < length bits.old) × (p < length routes.old) }
-    ensures { (is address ≡ set (was address) p network.address) × (is bits ≡ set (was bits) p network.bits) × (is routes ≡ set (was routes) p inside) }
+    ensures { (address.new ≡ set address.old p network.address) × (bits.new ≡ set bits.old p network.bits) × (routes.new ≡ set routes.old p inside) }
 {
     address[p] = network.address;
     bits[p] = network.bits;

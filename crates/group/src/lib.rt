@@ -5,14 +5,14 @@
 ghost use Rattle.std.specs.Prelude.{◌≡◌, not, ℕ, ◌≤◌, ◌<◌, length, eqb, ltb};
 ghost use Rattle.model.specs.Rows.{keep, span, column};
 ghost use Rattle.model.specs.Contest.{least_or};
-ghost use Rattle.model.specs.Lent.{was, is, col, Inside};
+ghost use Rattle.model.specs.Lent.{Inside};
 ghost use Rattle.model.specs.Columns.{most_rows};
 ghost use Rattle.model.specs.Listing.{group_by, groups_in, first_place};
 
 // The first place of a list whose row has what the row at place k has in a column.
 fn group_of(key: &[u32], rows: &[u16], k: usize) -> usize
     requires { Inside (length key.now) rows.now × (k < length rows.now) }
-    ensures { result ≡ group_by (λ p. col key (col rows p)) k }
+    ensures { result ≡ group_by (λ p. column key.now (column rows.now p)) k }
 {
     let q = rows::at(rows, k);
     let value = key[q];
@@ -27,7 +27,7 @@ fn group_of(key: &[u32], rows: &[u16], k: usize) -> usize
 // For each place of a list the group of its row: the first place whose row has the same in a column.
 pub fn groups(key: &[u32], rows: &[u16], group: &mut [u32])
     requires { Inside (length key.now) rows.now × (length rows.now ≤ most_rows) × (length group.old ≡ length rows.now) }
-    ensures { is group ≡ groups_in (was key) (was rows) }
+    ensures { group.new ≡ groups_in key.now rows.now }
 {
     for k in 0..rows.len() {
         group[k] = group_of(key, rows, k) as u32;
@@ -37,7 +37,7 @@ pub fn groups(key: &[u32], rows: &[u16], group: &mut [u32])
 // Lowers the number of each bucket to the least key of the rows in it.
 pub fn lower(bucket: &[u32], key: &[u32], low: &mut [u32])
     requires { (length key.now ≡ length bucket.now) × ((q : ℕ) → q < length bucket.now → column bucket.now q < length low.old) }
-    ensures { (k : ℕ) → column (is low) k ≡ least_or (col low k) (col key) (keep (λ q. eqb (col bucket q) k) (span 0 (length (was bucket)))) }
+    ensures { (k : ℕ) → column low.new k ≡ least_or (column low.old k) (column key.now) (keep (λ q. eqb (column bucket.now q) k) (span 0 (length bucket.now))) }
 {
     for q in 0..bucket.len() {
         let k = bucket[q] as usize;
@@ -51,7 +51,7 @@ pub fn lower(bucket: &[u32], key: &[u32], low: &mut [u32])
 // Whether the row q has a MED no higher than the lowest of its group.
 fn spared(group: &[u32], med: &[u32], low: &[u32], q: usize) -> bool
     requires { (q < length group.now) × (length med.now ≡ length group.now) × (column group.now q < length low.now) }
-    ensures { result ≡ not (ltb (col low (col group q)) (col med q)) }
+    ensures { result ≡ not (ltb (column low.now (column group.now q)) (column med.now q)) }
 {
     let k = group[q] as usize;
     !(low[k] < med[q])
@@ -60,7 +60,7 @@ fn spared(group: &[u32], med: &[u32], low: &[u32], q: usize) -> bool
 // The place of the first row with a MED no higher than the lowest of its group, or the end of the rows.
 pub fn first_spared(group: &[u32], med: &[u32], low: &[u32]) -> u32
     requires { (length group.now ≤ most_rows) × (length med.now ≡ length group.now) × ((q : ℕ) → q < length group.now → column group.now q < length low.now) }
-    ensures { result ≡ first_place (λ q. not (ltb (col low (col group q)) (col med q))) (span 0 (length (was group))) }
+    ensures { result ≡ first_place (λ q. not (ltb (column low.now (column group.now q)) (column med.now q))) (span 0 (length group.now)) }
 {
     for q in 0..group.len() {
         if spared(group, med, low, q) {

@@ -3,7 +3,6 @@
 #![tactic(auto)]
 ghost use Rattle.std.specs.Prelude.{◌≡◌, length};
 ghost use Rattle.model.specs.Rows.{table};
-ghost use Rattle.model.specs.Lent.{was, is};
 ghost use Rattle.model.specs.Columns.{columns, lent_mesh, choice_of, Placed, Rests, ForecastRows};
 
 // What each router chooses where the routers hold the rows `own` at rest: only those that hold no row of their own have to choose.
@@ -24,7 +23,7 @@ fn hold(
     requires placed { Placed (length own.now) ids.now distances.now (columns router.now asn.now preference.now path.now origin.now med.now nid.now peer.now) }
     requires rests { Rests (length own.now) ids.now distances.now (columns router.now asn.now preference.now path.now origin.now med.now nid.now peer.now) own.now }
     requires held_len { length held.old ≡ length own.now }
-    ensures { is held ≡ table (length (was own)) (choice_of (length (was own)) (was ids) (was distances) (columns (was router) (was asn) (was preference) (was path) (was origin) (was med) (was nid) (was peer)) (was own)) }
+    ensures { held.new ≡ table (length own.now) (choice_of (length own.now) ids.now distances.now (columns router.now asn.now preference.now path.now origin.now med.now nid.now peer.now) own.now) }
 {
     for r in 0..own.len() {
         if own[r] != rows::NONE {
@@ -61,7 +60,7 @@ fn forecast_rows_in(
 )
     requires placed { Placed (length early.old) ids.now distances.now (columns router.now asn.now preference.now path.now origin.now med.now nid.now peer.now) }
     requires first_len { (length first.old ≡ length early.old) × (length last.old ≡ length early.old) × (length late.old ≡ length early.old) }
-    ensures { ForecastRows (lent_mesh (length (was early)) (was ids) (was distances) (columns (was router) (was asn) (was preference) (was path) (was origin) (was med) (was nid) (was peer))) (is early) (is late) }
+    ensures { ForecastRows (lent_mesh (length early.old) ids.now distances.now (columns router.now asn.now preference.now path.now origin.now med.now nid.now peer.now)) early.new late.new }
 {
     stand::own_rows(
         router, asn, preference, path, origin, med, nid, peer, first, last,
@@ -91,7 +90,7 @@ pub fn forecast_rows(
 )
     requires placed { Placed (length early.old) ids.now distances.now (columns router.now asn.now preference.now path.now origin.now med.now nid.now peer.now) }
     requires late_len { length late.old ≡ length early.old }
-    ensures { ForecastRows (lent_mesh (length (was early)) (was ids) (was distances) (columns (was router) (was asn) (was preference) (was path) (was origin) (was med) (was nid) (was peer))) (is early) (is late) }
+    ensures { ForecastRows (lent_mesh (length early.old) ids.now distances.now (columns router.now asn.now preference.now path.now origin.now med.now nid.now peer.now)) early.new late.new }
 {
     let mut first = vacant();
     let mut last = vacant();

@@ -4,7 +4,6 @@
 ghost use Rattle.std.specs.Prelude.{◌≡◌, ◌++◌, ◌+◌, ◌*◌, ◌≤◌, length};
 ghost use Rattle.std.proofs.lemmas.List.Edits.{sets};
 ghost use Rattle.model.specs.Rows.{span};
-ghost use Rattle.model.specs.Lent.{was, is};
 ghost use Rattle.wire.specs.Numbers.{bytes_of};
 ghost use Rattle.text.specs.Text.{each, Puts};
 ghost use Rattle.load.specs.Load.{Asked};
@@ -35,7 +34,7 @@ fn wide(row: u16) -> u32
 // Puts the early and the late row of a router.
 fn put_router(area: &mut [u8], at: usize, early: u16, late: u16) -> usize
     requires { at + 4 ≤ length area.old }
-    ensures { Puts (was area) (is area) at result (bytes_of 2 early ++ bytes_of 2 late) × (result ≤ at + 4) }
+    ensures { Puts area.old area.new at result (bytes_of 2 early ++ bytes_of 2 late) × (result ≤ at + 4) }
 {
     wire::put16(area, at, wide(early));
     wire::put16(area, at + 2, wide(late));
@@ -45,7 +44,7 @@ fn put_router(area: &mut [u8], at: usize, early: u16, late: u16) -> usize
 // Puts the rows of each router.
 fn put_rows(early: &[u16], late: &[u16], area: &mut [u8])
     requires { (length late.now ≡ length early.now) × (4 * length early.now ≤ length area.old) }
-    ensures { is area ≡ sets (was area) 0 (each (router_bytes (was early) (was late)) (span 0 (length (was early)))) }
+    ensures { area.new ≡ sets area.old 0 (each (router_bytes early.now late.now) (span 0 (length early.now))) }
 {
     let mut at = 0;
     for r in 0..early.len() {
@@ -62,7 +61,7 @@ fn answer_in(
     area: &mut [u8],
 ) -> u32
     requires { Asked snapshot.now (length early.old) prefix × (length late.old ≡ length early.old) × (area_bytes ≤ length area.old) }
-    ensures { Answers (was snapshot) prefix (was area) result (is area) }
+    ensures { Answers snapshot.now prefix area.old result area.new }
 {
     let d = load::forecast(snapshot, prefix, early, late);
     put_rows(early, late, area);
@@ -76,7 +75,7 @@ fn no_rows() -> [u16; rows::MOST_ROUTERS] {
 // The same, where there are n routers.
 fn answer(snapshot: &[u8], n: usize, prefix: usize, area: &mut [u8]) -> u32
     requires { Asked snapshot.now n prefix × (area_bytes ≤ length area.old) }
-    ensures { Answers (was snapshot) prefix (was area) result (is area) }
+    ensures { Answers snapshot.now prefix area.old result area.new }
 {
     let mut early = no_rows();
     let mut late = no_rows();
@@ -86,7 +85,7 @@ fn answer(snapshot: &[u8], n: usize, prefix: usize, area: &mut [u8]) -> u32
 // The host call. Checks: ROOM, the reading order, NO PREFIX.
 #[unsafe(no_mangle)]
 pub extern "C" fn barrierose_forecast(snapshot: &[u8], prefix: u32, area: &mut [u8]) -> u32
-    ensures { Answers (was snapshot) prefix (was area) result (is area) }
+    ensures { Answers snapshot.now prefix area.old result area.new }
 {
     if area.len() < AREA_BYTES {
         return refused(Refusal::Room);
@@ -116,7 +115,7 @@ fn revised(answer: Revised) -> u32
 // The policy's call: the rewritten snapshot stands in the first bytes of `out`. Checks: ROOM, the snapshot, the policy.
 #[unsafe(no_mangle)]
 pub extern "C" fn barrierose_policy(snapshot: &[u8], policy: &[u8], out: &mut [u8]) -> u32
-    ensures { (result ≡ (revised_answer (was snapshot) (was policy) (was out)).number) × (is out ≡ revised_out (was snapshot) (was policy) (was out)) }
+    ensures { (result ≡ (revised_answer snapshot.now policy.now out.old).number) × (out.new ≡ revised_out snapshot.now policy.now out.old) }
 {
     revised(revise::revise(snapshot, policy, out))
 }

@@ -1,8 +1,8 @@
 // The lines of the printed forecast, put into a lent buffer. Each call answers the place after what it put.
 #![tactic(auto)]
+ghost use Rattle.model.specs.Rows.{column};
 ghost use Rattle.std.specs.Prelude.{◌≡◌, ◌⊎◌, ◌++◌, ◌+◌, ◌≤◌, ◌<◌, length};
 ghost use Rattle.model.specs.Decision.{none};
-ghost use Rattle.model.specs.Lent.{was, is, col};
 ghost use Rattle.text.specs.Text.{decimal, Puts};
 ghost use Rattle.lines.specs.Lines.{widest, heading_line, refusal_line, refused_line, dotted, state, prefix_line, entry, or_entry, router_line};
 
@@ -14,7 +14,7 @@ const NONE: u16 = 65535;
 // Puts a word and a number.
 fn put_number(out: &mut [u8], at: usize, word: &[u8], n: u32) -> usize
     requires { at + length word.now + 10 ≤ length out.old }
-    ensures { Puts (was out) (is out) at result (was word ++ decimal n) × (result ≤ at + length (was word) + 10) }
+    ensures { Puts out.old out.new at result (word.now ++ decimal n) × (result ≤ at + length word.now + 10) }
 {
     let next = put_text(out, at, word);
     put_decimal(out, next, n as u64)
@@ -23,7 +23,7 @@ fn put_number(out: &mut [u8], at: usize, word: &[u8], n: u32) -> usize
 // Puts line 1.
 pub fn put_heading(out: &mut [u8], at: usize, routers: u32, prefixes: u32) -> usize
     requires { at + widest ≤ length out.old }
-    ensures { Puts (was out) (is out) at result (heading_line routers prefixes) × (result ≤ at + widest) }
+    ensures { Puts out.old out.new at result (heading_line routers prefixes) × (result ≤ at + widest) }
 {
     let first = put_number(out, at, b"forecast ", routers);
     let second = put_number(out, first, b" ", prefixes);
@@ -33,7 +33,7 @@ pub fn put_heading(out: &mut [u8], at: usize, routers: u32, prefixes: u32) -> us
 // Puts the line of a refusal behind a word that says so.
 pub fn put_refusal(out: &mut [u8], at: usize, word: &[u8], number: u32, place: usize) -> usize
     requires { at + length word.now + 32 ≤ length out.old }
-    ensures { Puts (was out) (is out) at result (refusal_line (was word) number place) × (result ≤ at + length (was word) + 32) }
+    ensures { Puts out.old out.new at result (refusal_line word.now number place) × (result ≤ at + length word.now + 32) }
 {
     let first = put_number(out, at, word, number);
     let space = put_text(out, first, b" ");
@@ -44,7 +44,7 @@ pub fn put_refusal(out: &mut [u8], at: usize, word: &[u8], number: u32, place: u
 // Puts the line of a refused snapshot.
 pub fn put_refused(out: &mut [u8], at: usize, number: u32, place: usize) -> usize
     requires { at + widest ≤ length out.old }
-    ensures { Puts (was out) (is out) at result (refused_line number place) × (result ≤ at + widest) }
+    ensures { Puts out.old out.new at result (refused_line number place) × (result ≤ at + widest) }
 {
     put_refusal(out, at, b"refused ", number, place)
 }
@@ -52,7 +52,7 @@ pub fn put_refused(out: &mut [u8], at: usize, number: u32, place: usize) -> usiz
 // Puts an address.
 fn put_address(out: &mut [u8], at: usize, address: u32) -> usize
     requires { at + 43 ≤ length out.old }
-    ensures { Puts (was out) (is out) at result (dotted address) × (result ≤ at + 43) }
+    ensures { Puts out.old out.new at result (dotted address) × (result ≤ at + 43) }
 {
     let first = put_number(out, at, b"", address / 16777216);
     let second = put_number(out, first, b".", address / 65536 % 256);
@@ -63,7 +63,7 @@ fn put_address(out: &mut [u8], at: usize, address: u32) -> usize
 // Puts whether a prefix is settled, or how many routers differ.
 fn put_state(out: &mut [u8], at: usize, differing: u32) -> usize
     requires { at + 16 ≤ length out.old }
-    ensures { Puts (was out) (is out) at result (state differing) × (result ≤ at + 16) }
+    ensures { Puts out.old out.new at result (state differing) × (result ≤ at + 16) }
 {
     if differing == 0 {
         return put_text(out, at, b" settled");
@@ -74,7 +74,7 @@ fn put_state(out: &mut [u8], at: usize, differing: u32) -> usize
 // Puts a prefix's line.
 pub fn put_prefix(out: &mut [u8], at: usize, address: u32, bits: u32, differing: u32) -> usize
     requires { at + widest ≤ length out.old }
-    ensures { Puts (was out) (is out) at result (prefix_line address bits differing) × (result ≤ at + widest) }
+    ensures { Puts out.old out.new at result (prefix_line address bits differing) × (result ≤ at + widest) }
 {
     let word = put_text(out, at, b"prefix ");
     let dots = put_address(out, word, address);
@@ -87,7 +87,7 @@ pub fn put_prefix(out: &mut [u8], at: usize, address: u32, bits: u32, differing:
 fn put_entry(out: &mut [u8], at: usize, router: &[u32], r: u32, row: u16) -> usize
     requires at_in_bounds { at + 26 ≤ length out.old }
     requires fact { (row ≡ none) ⊎ (row < length router.now) }
-    ensures { Puts (was out) (is out) at result (entry (col router) r row) × (result ≤ at + 26) }
+    ensures { Puts out.old out.new at result (entry (column router.now) r row) × (result ≤ at + 26) }
 {
     if row == NONE {
         return put_text(out, at, b" none");
@@ -104,7 +104,7 @@ fn put_entry(out: &mut [u8], at: usize, router: &[u32], r: u32, row: u16) -> usi
 fn put_or(out: &mut [u8], at: usize, unsettled: bool, router: &[u32], r: u32, late: u16) -> usize
     requires at_in_bounds { at + 29 ≤ length out.old }
     requires fact { (late ≡ none) ⊎ (late < length router.now) }
-    ensures { Puts (was out) (is out) at result (or_entry unsettled (col router) r late) × (result ≤ at + 29) }
+    ensures { Puts out.old out.new at result (or_entry unsettled (column router.now) r late) × (result ≤ at + 29) }
 {
     if unsettled {
         let word = put_text(out, at, b" or");
@@ -125,7 +125,7 @@ pub fn put_router(
 ) -> usize
     requires widest_in_bounds { at + widest ≤ length out.old }
     requires fact { ((early ≡ none) ⊎ (early < length router.now)) × ((late ≡ none) ⊎ (late < length router.now)) }
-    ensures { Puts (was out) (is out) at result (router_line unsettled (col router) r early late) × (result ≤ at + widest) }
+    ensures { Puts out.old out.new at result (router_line unsettled (column router.now) r early late) × (result ≤ at + widest) }
 {
     let index = put_number(out, at, b"router ", r);
     let first = put_entry(out, index, router, r, early);

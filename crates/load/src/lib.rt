@@ -1,7 +1,6 @@
 // The forecast of one prefix from the bytes of a snapshot: only what that prefix is decided on is put into tables.
 #![tactic(auto)]
 ghost use Rattle.std.specs.Prelude.{◌≡◌, ◌≤◌, length};
-ghost use Rattle.model.specs.Lent.{was, is};
 ghost use Rattle.snapshot.specs.Limits.{most_in_prefix};
 ghost use Rattle.fill.specs.Fill.{behind_routes};
 ghost use Rattle.load.specs.Load.{place_from, unmarked, Asked, Lends, Loaded, Forecast};
@@ -11,7 +10,7 @@ use decide::Differing;
 // The place behind the routes that stand from a place on.
 fn behind_routes(input: &[u8], at: usize) -> usize
     requires { at ≤ length input.now }
-    ensures { result ≡ behind_routes most_in_prefix (was input) at }
+    ensures { result ≡ behind_routes most_in_prefix input.now at }
 {
     let mut at = at;
     let mut left = snapshot::MOST_IN_PREFIX;
@@ -29,7 +28,7 @@ fn behind_routes(input: &[u8], at: usize) -> usize
 // The place of a prefix, so many behind the one at a place.
 fn place_of(input: &[u8], at: usize, more: usize) -> usize
     requires { at ≤ length input.now }
-    ensures { result ≡ place_from more (was input) at }
+    ensures { result ≡ place_from more input.now at }
 {
     let mut at = at;
     let mut left = more;
@@ -65,8 +64,8 @@ fn load(
     peer: &mut [u32],
 ) -> usize
     requires { Asked input.now n prefix × Lends ids.old distances.old (unmarked router.old asn.old preference.old path.old origin.old med.old nid.old peer.old) }
-    ensures { Loaded (was input) n prefix (was ids) (was distances) (unmarked (was router) (was asn) (was preference) (was path) (was origin) (was med) (was nid) (was peer))
-        result (is ids) (is distances) (unmarked (is router) (is asn) (is preference) (is path) (is origin) (is med) (is nid) (is peer)) }
+    ensures { Loaded input.now n prefix ids.old distances.old (unmarked router.old asn.old preference.old path.old origin.old med.old nid.old peer.old)
+        result ids.new distances.new (unmarked router.new asn.new preference.new path.new origin.new med.new nid.new peer.new) }
 {
     let routes = place_of(input, fill::behind_distances(n), prefix) + snapshot::PREFIX_SIZE;
     fill::fill_ids(input, n, ids);
@@ -108,7 +107,7 @@ fn forecast_in(
     late: &mut [u16],
 ) -> Differing
     requires { Asked input.now (length early.old) prefix × Lends ids.old distances.old (unmarked router.old asn.old preference.old path.old origin.old med.old nid.old peer.old) × (length late.old ≡ length early.old) }
-    ensures { Forecast (was input) prefix result (is early) (is late) }
+    ensures { Forecast input.now prefix result early.new late.new }
 {
     let end = load(
         input,
@@ -153,7 +152,7 @@ fn no_distances() -> [u32; snapshot::ROOM_DISTANCES] {
 // entry of `early`.
 pub fn forecast(input: &[u8], prefix: usize, early: &mut [u16], late: &mut [u16]) -> Differing
     requires { Asked input.now (length early.old) prefix × (length late.old ≡ length early.old) }
-    ensures { Forecast (was input) prefix result (is early) (is late) }
+    ensures { Forecast input.now prefix result early.new late.new }
 {
     let mut ids = no_ids();
     let mut distances = no_distances();

@@ -1,7 +1,6 @@
 // The library's calls as the benchmarks make them: with numbers in place of enums, so that a C caller can take them.
 #![tactic(auto)]
 ghost use Rattle.std.specs.Prelude.{◌≡◌};
-ghost use Rattle.model.specs.Lent.{was, is};
 ghost use Rattle.snapshot.specs.Tables.{tables, columns};
 ghost use Rattle.scan.specs.Scan.{said as read_said};
 ghost use Rattle.writer.specs.Writing.{said as write_said};
@@ -44,7 +43,7 @@ pub extern "C" fn measure_read(
     nid: &mut [u32],
     peer: &mut [u32],
 ) -> u32
-    ensures { Reads (was input) (tables (was ids) (was distances) (was address) (was bits) (was routes) (columns (was router) (was asn) (was preference) (was path) (was origin) (was mark) (was med) (was nid) (was peer))) (tables (is ids) (is distances) (is address) (is bits) (is routes) (columns (is router) (is asn) (is preference) (is path) (is origin) (is mark) (is med) (is nid) (is peer))) result }
+    ensures { Reads input.now (tables ids.old distances.old address.old bits.old routes.old (columns router.old asn.old preference.old path.old origin.old mark.old med.old nid.old peer.old)) (tables ids.new distances.new address.new bits.new routes.new (columns router.new asn.new preference.new path.new origin.new mark.new med.new nid.new peer.new)) result }
 {
     let read = reader::read_snapshot(
         input, ids, distances, address, bits, routes, router, asn, preference, path, origin, mark,
@@ -85,7 +84,7 @@ pub extern "C" fn measure_write(
     peer: &[u32],
     out: &mut [u8],
 ) -> usize
-    ensures { Writes routers prefixes of_routes (tables (was ids) (was distances) (was address) (was bits) (was routes) (columns (was router) (was asn) (was preference) (was path) (was origin) (was mark) (was med) (was nid) (was peer))) (was out) (is out) result }
+    ensures { Writes routers prefixes of_routes (tables ids.now distances.now address.now bits.now routes.now (columns router.now asn.now preference.now path.now origin.now mark.now med.now nid.now peer.now)) out.old out.new result }
 {
     let counts = Counts {
         routers: routers,
@@ -133,7 +132,7 @@ pub extern "C" fn measure_forecast(
     early: &mut [u16],
     late: &mut [u16],
 ) -> u32
-    ensures { Forecasts routers prefixes of_routes (tables (was ids) (was distances) (was address) (was bits) (was routes) (columns (was router) (was asn) (was preference) (was path) (was origin) (was mark) (was med) (was nid) (was peer))) prefix (was early) (was late) (is early) (is late) result }
+    ensures { Forecasts routers prefixes of_routes (tables ids.now distances.now address.now bits.now routes.now (columns router.now asn.now preference.now path.now origin.now mark.now med.now nid.now peer.now)) prefix early.old late.old early.new late.new result }
 {
     let counts = Counts {
         routers: routers,
@@ -179,7 +178,7 @@ pub extern "C" fn measure_policy(
     nid: &[u32],
     peer: &[u32],
 ) -> u32
-    ensures { Policies routers prefixes of_routes (tables (was ids) (was distances) (was address) (was bits) (was routes) (columns (was router) (was asn) (was preference) (was path) (was origin) (was mark) (was med) (was nid) (was peer))) (was policy) (tables (was ids) (was distances) (was address) (was bits) (was routes) (columns (was router) (was asn) (is preference) (was path) (was origin) (is mark) (is med) (was nid) (was peer))) result }
+    ensures { Policies routers prefixes of_routes (tables ids.now distances.now address.now bits.now routes.now (columns router.now asn.now preference.old path.now origin.now mark.old med.old nid.now peer.now)) policy.now (tables ids.now distances.now address.now bits.now routes.now (columns router.now asn.now preference.new path.now origin.now mark.new med.new nid.now peer.now)) result }
 {
     let counts = Counts {
         routers: routers,

@@ -1,20 +1,7 @@
--- Short names for what a slice that is lent to a function holds, for the `ensures` of contracts, and for rows kept as a list.
+-- Rows kept as a list in a slice that is lent to a function.
 use Rattle.std.specs.Prelude.{ℕ, ◌≤◌, ◌<◌, ◌≡◌, List, length, take}
-use denote.Triple.Both.{Both}
-use Rattle.std.specs.Borrow.{Bor}
 use Rattle.std.proofs.lemmas.List.Edits.{sets}
 use Rattle.model.specs.Rows.{column, keep_least, keep_greatest}
-
--- what the slice holds at entry, and, of a `&mut`, at exit
-abbrev pub was : {X E : Type 0} → Both (Bor X) E → X
-was x = x.entry.now
-
-abbrev pub is : {X E : Type 0} → Both E (Bor X) → X
-is x = x.exit.now
-
--- a column at entry
-abbrev pub col : {E : Type 0} → Both (Bor (List ℕ)) E → ℕ → ℕ
-col x = column x.entry.now
 
 -- every row of a list is a row of columns that are n long
 pub record Inside (n : ℕ) (rows : List ℕ) : Type 0 where

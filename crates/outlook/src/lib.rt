@@ -2,7 +2,6 @@
 #![tactic(auto)]
 ghost use Rattle.std.specs.Prelude.{◌≡◌, ◌-◌, ◌≤◌, length};
 ghost use Rattle.model.specs.Columns.{columns, lent_mesh};
-ghost use Rattle.model.specs.Lent.{was, is};
 ghost use Rattle.snapshot.specs.Limits.{most_routes};
 ghost use Rattle.snapshot.specs.Tables.{tables, columns as row_columns};
 ghost use Rattle.model.specs.Rows.{start};
@@ -23,7 +22,7 @@ pub enum Outlook {
 // The row at which the routes of a prefix start: behind those of the prefixes below it.
 fn start_of(routes: &[u32], prefix: usize) -> usize
     requires { (prefix ≤ length routes.now) × (start routes.now prefix ≤ most_routes) }
-    ensures { result ≡ start (was routes) prefix }
+    ensures { result ≡ start routes.now prefix }
 {
     let mut sum: usize = 0;
     for p in 0..prefix {
@@ -52,7 +51,7 @@ pub fn shown(
     late: &mut [u16],
 ) -> Differing
     requires { Part routers first end ids.now distances.now (columns router.now asn.now preference.now path.now origin.now med.now nid.now peer.now) early.old late.old }
-    ensures { Shown (lent_mesh routers (was ids) (was distances) (cut first (end - first) (columns (was router) (was asn) (was preference) (was path) (was origin) (was med) (was nid) (was peer)))) result (was early) (is early) (was late) (is late) }
+    ensures { Shown (lent_mesh routers ids.now distances.now (cut first (end - first) (columns router.now asn.now preference.now path.now origin.now med.now nid.now peer.now))) result early.old early.new late.old late.new }
 {
     decide::decided(
         &router[first..end],
@@ -91,7 +90,7 @@ pub fn forecast(
     early: &mut [u16],
     late: &mut [u16],
 ) -> Outlook
-    ensures { Forecasts counts (tables (was ids) (was distances) (was address) (was bits) (was routes) (row_columns (was router) (was asn) (was preference) (was path) (was origin) (was mark) (was med) (was nid) (was peer))) prefix (was early) (was late) (said result) (is early) (is late) }
+    ensures { Forecasts counts (tables ids.now distances.now address.now bits.now routes.now (row_columns router.now asn.now preference.now path.now origin.now mark.now med.now nid.now peer.now)) prefix early.old late.old (said result) early.new late.new }
 {
     let most = snapshot::MOST_ROUTERS as usize;
     if (early.len() < most) | (late.len() < most) {

@@ -1,9 +1,8 @@
 // The printed forecast of a snapshot's bytes, put into a lent buffer.
 #![tactic(auto)]
 ghost use Rattle.std.specs.Prelude.{◌≡◌, ◌+◌, ◌-◌, ◌*◌, ◌≤◌, ◌<◌, length, get_or};
-ghost use Rattle.model.specs.Rows.{span};
+ghost use Rattle.model.specs.Rows.{column, span};
 ghost use Rattle.model.specs.Decision.{none};
-ghost use Rattle.model.specs.Lent.{was, is, col};
 ghost use Rattle.snapshot.specs.Limits.{most_routers};
 ghost use Rattle.model.specs.Columns.{columns, lent_mesh};
 ghost use Rattle.outlook.specs.Outlook.{cut, Part};
@@ -26,7 +25,7 @@ fn put_routers(
 ) -> usize
     requires late_len { (length late.now ≡ length early.now) × (length early.now ≤ most_routers) × (at + widest * length early.now ≤ length out.old) }
     requires rows { Rows router.now early.now × Rows router.now late.now }
-    ensures { Puts (was out) (is out) at result (each (λ r. router_line unsettled (col router) r (get_or (was early) r none) (get_or (was late) r none)) (span 0 (length (was early)))) × (result ≤ at + widest * length (was early)) }
+    ensures { Puts out.old out.new at result (each (λ r. router_line unsettled (column router.now) r (get_or early.now r none) (get_or late.now r none)) (span 0 (length early.now))) × (result ≤ at + widest * length early.now) }
 {
     let mut end = at;
     for r in 0..early.len() {
@@ -48,7 +47,7 @@ fn put_block(
 ) -> usize
     requires late_len { (length late.now ≡ length early.now) × (length early.now ≤ most_routers) × (at + widest_block ≤ length out.old) }
     requires rows { Rows router.now early.now × Rows router.now late.now }
-    ensures { Puts (was out) (is out) at result (block address bits number (col router) (length (was early)) (was early) (was late)) × (result ≤ at + widest_block) }
+    ensures { Puts out.old out.new at result (block address bits number (column router.now) (length early.now) early.now late.now) × (result ≤ at + widest_block) }
 {
     let head = lines::put_prefix(out, at, address, bits, number);
     put_routers(out, head, number != 0, router, early, late)
@@ -75,7 +74,7 @@ fn put_decided(
     peer: &[u32],
 ) -> usize
     requires { (at + widest_block ≤ length out.old) × Part routers first end ids.now distances.now (columns router.now asn.now preference.now path.now origin.now med.now nid.now peer.now) blank blank }
-    ensures { Puts (was out) (is out) at result (decided_text address bits (lent_mesh routers (was ids) (was distances) (cut first (end - first) (columns (was router) (was asn) (was preference) (was path) (was origin) (was med) (was nid) (was peer))))) × (result ≤ at + widest_block) }
+    ensures { Puts out.old out.new at result (decided_text address bits (lent_mesh routers ids.now distances.now (cut first (end - first) (columns router.now asn.now preference.now path.now origin.now med.now nid.now peer.now)))) × (result ≤ at + widest_block) }
 {
     let mut early = [0u16; snapshot::MOST_ROUTERS as usize];
     let mut late = [0u16; snapshot::MOST_ROUTERS as usize];
@@ -117,7 +116,7 @@ fn put_prefixes(
 ) -> usize
     requires blocks { Blocks routers prefixes ids.now distances.now address.now bits.now routes.now (columns router.now asn.now preference.now path.now origin.now med.now nid.now peer.now) }
     requires prefixes_in_bounds { at + widest_block * prefixes ≤ length out.old }
-    ensures { Puts (was out) (is out) at result (each (lent_text routers (was ids) (was distances) (was address) (was bits) (was routes) (columns (was router) (was asn) (was preference) (was path) (was origin) (was med) (was nid) (was peer))) (span 0 prefixes)) × (result ≤ at + widest_block * prefixes) }
+    ensures { Puts out.old out.new at result (each (lent_text routers ids.now distances.now address.now bits.now routes.now (columns router.now asn.now preference.now path.now origin.now med.now nid.now peer.now)) (span 0 prefixes)) × (result ≤ at + widest_block * prefixes) }
 {
     let mut end = at;
     let mut first = 0;
@@ -151,7 +150,7 @@ fn put_read(
     peer: &[u32],
 ) -> usize
     requires { Ready read ids.now distances.now address.now bits.now routes.now (columns router.now asn.now preference.now path.now origin.now med.now nid.now peer.now) (length out.old) }
-    ensures { Puts (was out) (is out) 0 result (lent_page read (was ids) (was distances) (was address) (was bits) (was routes) (columns (was router) (was asn) (was preference) (was path) (was origin) (was med) (was nid) (was peer))) }
+    ensures { Puts out.old out.new 0 result (lent_page read ids.now distances.now address.now bits.now routes.now (columns router.now asn.now preference.now path.now origin.now med.now nid.now peer.now)) }
 {
     match read {
         Read::Refused(r, at) => lines::put_refused(out, 0, refusal::number(r), at),
@@ -192,7 +191,7 @@ pub const PAGE: usize = 332880;
 
 // Puts the page of a snapshot's bytes at the start of a buffer. ROOM, at place 0, where not every page would fit into it.
 pub fn render(input: &[u8], out: &mut [u8]) -> Rendered
-    ensures { Renders (was input) (was out) (said result) (is out) }
+    ensures { Renders input.now out.old (said result) out.new }
 {
     if out.len() < PAGE {
         return Rendered::Refused(Refusal::Room, 0);

@@ -2,8 +2,7 @@
 // rows once and rewrites those that were heard on it.
 #![tactic(auto)]
 ghost use Rattle.std.specs.Prelude.{◌≡◌, cond, ◌&&◌, ◌≤◌, ◌<◌, eqb, length, set};
-ghost use Rattle.model.specs.Rows.{start};
-ghost use Rattle.model.specs.Lent.{was, is, col};
+ghost use Rattle.model.specs.Rows.{column, start};
 ghost use Rattle.snapshot.specs.Limits.{most_prefixes, most_routes};
 ghost use Rattle.policy.specs.Policy.{most_clauses};
 ghost use Rattle.policy.specs.Rewriting.{usual, preferred};
@@ -21,7 +20,7 @@ const MOST_CLAUSES: usize = policy::MOST_CLAUSES as usize;
 // Marks the rows from one to another with the number of their prefix.
 fn mark_rows(p: usize, row: usize, end: usize, owner: &mut [u16])
     requires { (p < most_prefixes) × (row ≤ end) × (end ≤ length owner.old) }
-    ensures { Marked p row end (was owner) (is owner) }
+    ensures { Marked p row end owner.old owner.new }
 {
     let mut q = row;
     while q < end {
@@ -33,7 +32,7 @@ fn mark_rows(p: usize, row: usize, end: usize, owner: &mut [u16])
 // Marks the rows of so many prefixes, each with the number of its prefix.
 fn mark_owners(prefixes: usize, routes: &[u32], owner: &mut [u16])
     requires { (prefixes ≤ most_prefixes) × (most_prefixes ≤ length routes.now) × (start routes.now prefixes ≤ length owner.old) }
-    ensures { Owned (was routes) prefixes (is owner) × (length (is owner) ≡ length (was owner)) }
+    ensures { Owned routes.now prefixes owner.new × (length owner.new ≡ length owner.old) }
 {
     let mut row = 0;
     let mut p = 0;
@@ -49,7 +48,7 @@ fn mark_owners(prefixes: usize, routes: &[u32], owner: &mut [u16])
 // Sets the preferences of so many rows to 100.
 fn set_usual(rows: usize, preference: &mut [u32])
     requires { rows ≤ length preference.old }
-    ensures { is preference ≡ entries rows (λ q. usual) (was preference) }
+    ensures { preference.new ≡ entries rows (λ q. usual) preference.old }
 {
     let mut q = 0;
     while q < rows {
@@ -68,7 +67,7 @@ fn pick(first: bool, a: u32, b: u32) -> u32
 // Whether the route in a row was heard on a session.
 fn heard(s: Named, router: &[u32], peer: &[u32], q: usize) -> bool
     requires { (q < length router.now) × (q < length peer.now) }
-    ensures { result ≡ (eqb s.router (col router q) && eqb s.peer (col peer q)) }
+    ensures { result ≡ (eqb s.router (column router.now q) && eqb s.peer (column peer.now q)) }
 {
     (s.router == router[q]) & (s.peer == peer[q])
 }
@@ -76,7 +75,7 @@ fn heard(s: Named, router: &[u32], peer: &[u32], q: usize) -> bool
 // Sets the MED of the route in a row to 0, as one that is present, if that is asked.
 fn clear(zero: bool, q: usize, mark: &mut [u32], med: &mut [u32])
     requires { (q < length mark.old) × (q < length med.old) }
-    ensures { (is mark ≡ set (was mark) q (cond zero 1 (col mark q))) × (is med ≡ set (was med) q (cond zero 0 (col med q))) }
+    ensures { (mark.new ≡ set mark.old q (cond zero 1 (column mark.old q))) × (med.new ≡ set med.old q (cond zero 0 (column med.old q))) }
 {
     mark[q] = pick(zero, 1, mark[q]);
     med[q] = pick(zero, 0, med[q]);
@@ -100,9 +99,9 @@ fn rule(
     med: &mut [u32],
 )
     requires { Wide count kind.now key.now long.now gives.now × (q < length asn.now) × (q < length preference.old) × (q < length path.now) × (q < length mark.old) × (q < length med.old) }
-    ensures { (is preference ≡ set (was preference) q (preferred (apart (was kind) (was key) (was long) (was gives) count) address bits (col path q) (col asn q)))
-        × (is mark ≡ set (was mark) q (cond zero 1 (col mark q)))
-        × (is med ≡ set (was med) q (cond zero 0 (col med q))) }
+    ensures { (preference.new ≡ set preference.old q (preferred (apart kind.now key.now long.now gives.now count) address bits (column path.now q) (column asn.now q)))
+        × (mark.new ≡ set mark.old q (cond zero 1 (column mark.old q)))
+        × (med.new ≡ set med.old q (cond zero 0 (column med.old q))) }
 {
     let hops = path[q];
     let from = asn[q];
@@ -133,9 +132,9 @@ fn pass(
 )
     requires { Wide count kind.now key.now long.now gives.now × Told rows owner.now address.now bits.now
         × Long rows (seen router.now asn.now preference.old path.now mark.old med.old peer.now) }
-    ensures { seen (was router) (was asn) (is preference) (was path) (is mark) (is med) (was peer)
-        ≡ passed (session_of s (apart (was kind) (was key) (was long) (was gives) count)) (of_row (was address) (was owner)) (of_row (was bits) (was owner)) rows
-        (seen (was router) (was asn) (was preference) (was path) (was mark) (was med) (was peer)) }
+    ensures { seen router.now asn.now preference.new path.now mark.new med.new peer.now
+        ≡ passed (session_of s (apart kind.now key.now long.now gives.now count)) (of_row address.now owner.now) (of_row bits.now owner.now) rows
+        (seen router.now asn.now preference.old path.now mark.old med.old peer.now) }
 {
     let mut q = 0;
     while q < rows {
@@ -173,9 +172,9 @@ fn pass_in(
     gives: &mut [u32],
 )
     requires { Wide most_clauses kind.old key.old long.old gives.old × Told rows owner.now address.now bits.now × Long rows (seen router.now asn.now preference.old path.now mark.old med.old peer.now) }
-    ensures { seen (was router) (was asn) (is preference) (was path) (is mark) (is med) (was peer)
-        ≡ passed_all (sessions_from (was policy) 0) (of_row (was address) (was owner)) (of_row (was bits) (was owner)) rows
-        (seen (was router) (was asn) (was preference) (was path) (was mark) (was med) (was peer)) }
+    ensures { seen router.now asn.now preference.new path.now mark.new med.new peer.now
+        ≡ passed_all (sessions_from policy.now 0) (of_row address.now owner.now) (of_row bits.now owner.now) rows
+        (seen router.now asn.now preference.old path.now mark.old med.old peer.now) }
 {
     let mut at = 0;
     while at < policy.len() {
@@ -212,9 +211,9 @@ fn pass_all(
     peer: &[u32],
 )
     requires { Told rows owner.now address.now bits.now × Long rows (seen router.now asn.now preference.old path.now mark.old med.old peer.now) }
-    ensures { seen (was router) (was asn) (is preference) (was path) (is mark) (is med) (was peer)
-        ≡ passed_all (sessions_from (was policy) 0) (of_row (was address) (was owner)) (of_row (was bits) (was owner)) rows
-        (seen (was router) (was asn) (was preference) (was path) (was mark) (was med) (was peer)) }
+    ensures { seen router.now asn.now preference.new path.now mark.new med.new peer.now
+        ≡ passed_all (sessions_from policy.now 0) (of_row address.now owner.now) (of_row bits.now owner.now) rows
+        (seen router.now asn.now preference.old path.now mark.old med.old peer.now) }
 {
     let mut kind = no_clauses();
     let mut key = no_clauses();
@@ -248,9 +247,9 @@ fn apply_in(
     owner: &mut [u16],
 )
     requires { Lent prefixes rows address.now bits.now routes.now (seen router.now asn.now preference.old path.now mark.old med.old peer.now) × (rows ≤ length owner.old) }
-    ensures { seen (was router) (was asn) (is preference) (was path) (is mark) (is med) (was peer)
-        ≡ applied (sessions_from (was policy) 0) (prefix_field (was address) (was routes) prefixes) (prefix_field (was bits) (was routes) prefixes) rows
-        (seen (was router) (was asn) (was preference) (was path) (was mark) (was med) (was peer)) }
+    ensures { seen router.now asn.now preference.new path.now mark.new med.new peer.now
+        ≡ applied (sessions_from policy.now 0) (prefix_field address.now routes.now prefixes) (prefix_field bits.now routes.now prefixes) rows
+        (seen router.now asn.now preference.old path.now mark.old med.old peer.now) }
 {
     mark_owners(prefixes, routes, owner);
     set_usual(rows, preference);
@@ -276,9 +275,9 @@ pub fn apply(
     peer: &[u32],
 )
     requires { Lent prefixes rows address.now bits.now routes.now (seen router.now asn.now preference.old path.now mark.old med.old peer.now) × (rows ≤ most_routes) }
-    ensures { seen (was router) (was asn) (is preference) (was path) (is mark) (is med) (was peer)
-        ≡ applied (sessions_from (was policy) 0) (prefix_field (was address) (was routes) prefixes) (prefix_field (was bits) (was routes) prefixes) rows
-        (seen (was router) (was asn) (was preference) (was path) (was mark) (was med) (was peer)) }
+    ensures { seen router.now asn.now preference.new path.now mark.new med.new peer.now
+        ≡ applied (sessions_from policy.now 0) (prefix_field address.now routes.now prefixes) (prefix_field bits.now routes.now prefixes) rows
+        (seen router.now asn.now preference.old path.now mark.old med.old peer.now) }
 {
     let mut owner = no_owners();
     apply_in(

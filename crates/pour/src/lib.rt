@@ -1,7 +1,6 @@
 // The second pass over a snapshot, its loops over routes and prefixes: what was judged sound is put into the lent tables.
 #![tactic(auto)]
 ghost use Rattle.std.specs.Prelude.{◌≡◌, ◌+◌, ◌-◌, ◌≤◌, length};
-ghost use Rattle.model.specs.Lent.{was, is};
 ghost use Rattle.snapshot.specs.Limits.{most_prefixes};
 ghost use Rattle.snapshot.specs.Tables.{columns, tables, put_routes, Wide, Room};
 ghost use Rattle.fill.specs.Fill.{Spans, routes_from, behind_routes, prefixes_from, lists, put_prefixes, filled_from, WideLists};
@@ -30,9 +29,9 @@ pub fn fill_routes(
     peer: &mut [u32],
 ) -> End
     requires { (at ≤ length input.now) × (row ≤ room) × Wide room (columns router.old asn.old preference.old path.old origin.old mark.old med.old nid.old peer.old) }
-    ensures { (result.row ≡ row + length (routes_from (room - row) (was input) at)) × (result.at ≡ behind_routes (room - row) (was input) at)
-        × (columns (is router) (is asn) (is preference) (is path) (is origin) (is mark) (is med) (is nid) (is peer)
-        ≡ put_routes (columns (was router) (was asn) (was preference) (was path) (was origin) (was mark) (was med) (was nid) (was peer)) row (routes_from (room - row) (was input) at)) }
+    ensures { (result.row ≡ row + length (routes_from (room - row) input.now at)) × (result.at ≡ behind_routes (room - row) input.now at)
+        × (columns router.new asn.new preference.new path.new origin.new mark.new med.new nid.new peer.new
+        ≡ put_routes (columns router.old asn.old preference.old path.old origin.old mark.old med.old nid.old peer.old) row (routes_from (room - row) input.now at)) }
 {
     let mut at = at;
     let mut row = row;
@@ -73,9 +72,9 @@ fn fill_prefixes(
 )
     requires { (at ≤ length input.now) × (prefixes ≤ most_prefixes) × WideLists most_prefixes (lists address.old bits.old routes.old
         (columns router.old asn.old preference.old path.old origin.old mark.old med.old nid.old peer.old)) }
-    ensures { lists (is address) (is bits) (is routes) (columns (is router) (is asn) (is preference) (is path) (is origin) (is mark) (is med) (is nid) (is peer))
-        ≡ put_prefixes (lists (was address) (was bits) (was routes) (columns (was router) (was asn) (was preference) (was path) (was origin) (was mark) (was med) (was nid) (was peer)))
-        (prefixes_from prefixes (was input) at 0) }
+    ensures { lists address.new bits.new routes.new (columns router.new asn.new preference.new path.new origin.new mark.new med.new nid.new peer.new)
+        ≡ put_prefixes (lists address.old bits.old routes.old (columns router.old asn.old preference.old path.old origin.old mark.old med.old nid.old peer.old))
+        (prefixes_from prefixes input.now at 0) }
 {
     let mut at = at;
     let mut row = 0;
@@ -131,9 +130,9 @@ pub fn fill_tables(
 )
     requires { Spans input.now n × (prefixes ≤ most_prefixes) × Room (tables ids.old distances.old address.old bits.old routes.old
         (columns router.old asn.old preference.old path.old origin.old mark.old med.old nid.old peer.old)) }
-    ensures { tables (is ids) (is distances) (is address) (is bits) (is routes) (columns (is router) (is asn) (is preference) (is path) (is origin) (is mark) (is med) (is nid) (is peer))
-        ≡ filled_from (was input) n prefixes (tables (was ids) (was distances) (was address) (was bits) (was routes)
-        (columns (was router) (was asn) (was preference) (was path) (was origin) (was mark) (was med) (was nid) (was peer))) }
+    ensures { tables ids.new distances.new address.new bits.new routes.new (columns router.new asn.new preference.new path.new origin.new mark.new med.new nid.new peer.new)
+        ≡ filled_from input.now n prefixes (tables ids.old distances.old address.old bits.old routes.old
+        (columns router.old asn.old preference.old path.old origin.old mark.old med.old nid.old peer.old)) }
 {
     let at = fill::behind_distances(n);
     fill::fill_ids(input, n, ids);

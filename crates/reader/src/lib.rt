@@ -1,7 +1,6 @@
 // Reading a snapshot: from bytes to the lent tables, or a refusal by number and place with nothing altered.
 #![tactic(auto)]
 ghost use Rattle.std.specs.Prelude.{◌≡◌};
-ghost use Rattle.model.specs.Lent.{was, is};
 ghost use Rattle.snapshot.specs.Tables.{columns, tables};
 ghost use Rattle.scan.specs.Scan.{said};
 ghost use Rattle.reader.specs.Read.{read_answer, read_tables};
@@ -28,12 +27,12 @@ pub fn read_snapshot(
     nid: &mut [u32],
     peer: &mut [u32],
 ) -> Read
-    ensures { (said result ≡ read_answer (was input) (tables (was ids) (was distances) (was address) (was bits) (was routes)
-        (columns (was router) (was asn) (was preference) (was path) (was origin) (was mark) (was med) (was nid) (was peer))))
-        × (tables (is ids) (is distances) (is address) (is bits) (is routes)
-        (columns (is router) (is asn) (is preference) (is path) (is origin) (is mark) (is med) (is nid) (is peer))
-        ≡ read_tables (was input) (tables (was ids) (was distances) (was address) (was bits) (was routes)
-        (columns (was router) (was asn) (was preference) (was path) (was origin) (was mark) (was med) (was nid) (was peer)))) }
+    ensures { (said result ≡ read_answer input.now (tables ids.old distances.old address.old bits.old routes.old
+        (columns router.old asn.old preference.old path.old origin.old mark.old med.old nid.old peer.old)))
+        × (tables ids.new distances.new address.new bits.new routes.new
+        (columns router.new asn.new preference.new path.new origin.new mark.new med.new nid.new peer.new)
+        ≡ read_tables input.now (tables ids.old distances.old address.old bits.old routes.old
+        (columns router.old asn.old preference.old path.old origin.old mark.old med.old nid.old peer.old))) }
 {
     if snapshot::lacks_room(
         ids.len(),

@@ -3,7 +3,6 @@
 ghost use Rattle.std.specs.Prelude.{◌≡◌, [], ◌∷◌, ◌+◌, ◌≤◌, ◌<◌, length};
 ghost use Rattle.std.proofs.lemmas.List.Edits.{sets};
 ghost use Rattle.model.specs.Rows.{column};
-ghost use Rattle.model.specs.Lent.{was, is, col};
 ghost use Rattle.snapshot.specs.Records.{count_form, router_form, distance_form, prefix_form, route_forms, end_form, written, written_in, size};
 ghost use Rattle.snapshot.specs.Format.{route_fields};
 ghost use Rattle.snapshot.specs.Limits.{most_routes};
@@ -14,7 +13,7 @@ ghost use Rattle.records.specs.Putting.{front_bytes, middle_bytes, back_bytes, S
 // The number of routers.
 pub fn put_count(out: &mut [u8], at: usize, n: u32)
     requires { at + size count_form ≤ length out.old }
-    ensures { is out ≡ sets (was out) at (written count_form (n ∷ [])) }
+    ensures { out.new ≡ sets out.old at (written count_form (n ∷ [])) }
 {
     wire::put8(out, at, 1);
     wire::put8(out, at + 1, n);
@@ -23,7 +22,7 @@ pub fn put_count(out: &mut [u8], at: usize, n: u32)
 // A router's index and id.
 pub fn put_router(out: &mut [u8], at: usize, index: u32, id: u32)
     requires { at + size router_form ≤ length out.old }
-    ensures { is out ≡ sets (was out) at (written router_form (index ∷ id ∷ [])) }
+    ensures { out.new ≡ sets out.old at (written router_form (index ∷ id ∷ [])) }
 {
     wire::put8(out, at, 2);
     wire::put8(out, at + 1, index);
@@ -34,7 +33,7 @@ pub fn put_router(out: &mut [u8], at: usize, index: u32, id: u32)
 // then stored as one.
 pub fn put_distance(out: &mut [u8], at: usize, from: u32, to: u32, distances: &[u32], cell: usize)
     requires { (at + size distance_form ≤ length out.old) × (cell < length distances.now) }
-    ensures { is out ≡ sets (was out) at (written distance_form (from ∷ to ∷ col distances cell ∷ [])) }
+    ensures { out.new ≡ sets out.old at (written distance_form (from ∷ to ∷ column distances.now cell ∷ [])) }
 {
     wire::put8(out, at, 3);
     wire::put8(out, at + 1, from);
@@ -45,7 +44,7 @@ pub fn put_distance(out: &mut [u8], at: usize, from: u32, to: u32, distances: &[
 // A prefix's address and length.
 pub fn put_prefix(out: &mut [u8], at: usize, address: u32, bits: u32)
     requires { at + size prefix_form ≤ length out.old }
-    ensures { is out ≡ sets (was out) at (written prefix_form (address ∷ bits ∷ [])) }
+    ensures { out.new ≡ sets out.old at (written prefix_form (address ∷ bits ∷ [])) }
 {
     wire::put8(out, at, 4);
     wire::put32(out, at + 1, address);
@@ -56,7 +55,7 @@ pub fn put_prefix(out: &mut [u8], at: usize, address: u32, bits: u32)
 // read behind the bytes before it: its bytes are then stored as one.
 fn put_route_front(out: &mut [u8], at: usize, router: &[u32], asn: &[u32], row: usize) -> usize
     requires { (row < length router.now) × (row < length asn.now) × Space (front_bytes (column router.now row) (column asn.now row)) out.old at }
-    ensures { Puts (front_bytes (col router row) (col asn row)) (was out) at (is out) result }
+    ensures { Puts (front_bytes (column router.now row) (column asn.now row)) out.old at out.new result }
 {
     let four = snapshot::four_byte(asn[row]);
     wire::put8(out, at, snapshot::route_kind(four) as u32);
@@ -80,7 +79,7 @@ fn put_route_middle(
     row: usize,
 ) -> usize
     requires { (row < length preference.now) × (row < length path.now) × (row < length origin.now) × (row < length mark.now) × Space (middle_bytes (column preference.now row) (column path.now row) (column origin.now row) (column mark.now row)) out.old at }
-    ensures { Puts (middle_bytes (col preference row) (col path row) (col origin row) (col mark row)) (was out) at (is out) result }
+    ensures { Puts (middle_bytes (column preference.now row) (column path.now row) (column origin.now row) (column mark.now row)) out.old at out.new result }
 {
     wire::put32(out, at, preference[row]);
     wire::put16(out, at + 4, path[row]);
@@ -99,7 +98,7 @@ fn put_route_back(
     row: usize,
 ) -> usize
     requires { (row < length med.now) × (row < length nid.now) × (row < length peer.now) × Space (back_bytes (column med.now row) (column nid.now row) (column peer.now row)) out.old at }
-    ensures { Puts (back_bytes (col med row) (col nid row) (col peer row)) (was out) at (is out) result }
+    ensures { Puts (back_bytes (column med.now row) (column nid.now row) (column peer.now row)) out.old at out.new result }
 {
     wire::put32(out, at, med[row]);
     wire::put32(out, at + 4, nid[row]);
@@ -123,7 +122,7 @@ pub fn put_route(
     row: usize,
 ) -> usize
     requires { (row < most_routes) × Wide most_routes (columns router.now asn.now preference.now path.now origin.now mark.now med.now nid.now peer.now) × Space (written_in route_forms (route_fields (route_at (columns router.now asn.now preference.now path.now origin.now mark.now med.now nid.now peer.now) row))) out.old at }
-    ensures { Puts (written_in route_forms (route_fields (route_at (columns (was router) (was asn) (was preference) (was path) (was origin) (was mark) (was med) (was nid) (was peer)) row))) (was out) at (is out) result }
+    ensures { Puts (written_in route_forms (route_fields (route_at (columns router.now asn.now preference.now path.now origin.now mark.now med.now nid.now peer.now) row))) out.old at out.new result }
 {
     let middle = put_route_front(out, at, router, asn, row);
     let back = put_route_middle(out, middle, preference, path, origin, mark, row);
@@ -133,7 +132,7 @@ pub fn put_route(
 // The end, with the number of records before it.
 pub fn put_end(out: &mut [u8], at: usize, records: u32)
     requires { at + size end_form ≤ length out.old }
-    ensures { is out ≡ sets (was out) at (written end_form (records ∷ [])) }
+    ensures { out.new ≡ sets out.old at (written end_form (records ∷ [])) }
 {
     wire::put8(out, at, 6);
     wire::put32(out, at + 1, records);

@@ -1,7 +1,6 @@
 // A policy applied to a snapshot, from bytes to bytes.
 #![tactic(auto)]
 ghost use Rattle.std.specs.Prelude.{◌≡◌};
-ghost use Rattle.model.specs.Lent.{was, is};
 ghost use Rattle.snapshot.specs.Tables.{columns, tables};
 ghost use Rattle.revise.specs.Revising.{said, revised_answer, revised_out, Rewrites, AfterRead};
 
@@ -40,7 +39,7 @@ fn rewrite(
     peer: &[u32],
     out: &mut [u8],
 ) -> Revised
-    ensures { Rewrites counts (tables (was ids) (was distances) (was address) (was bits) (was routes) (columns (was router) (was asn) (was preference) (was path) (was origin) (was mark) (was med) (was nid) (was peer))) (was policy) (was out) (said result) (is out) }
+    ensures { Rewrites counts (tables ids.now distances.now address.now bits.now routes.now (columns router.now asn.now preference.old path.now origin.now mark.old med.old nid.now peer.now)) policy.now out.old (said result) out.new }
 {
     match apply::apply_policy(
         policy, counts, ids, distances, address, bits, routes, router, asn, preference, path,
@@ -77,7 +76,7 @@ fn rewrite_read(
     peer: &[u32],
     out: &mut [u8],
 ) -> Revised
-    ensures { AfterRead (tables (was ids) (was distances) (was address) (was bits) (was routes) (columns (was router) (was asn) (was preference) (was path) (was origin) (was mark) (was med) (was nid) (was peer))) (was policy) (was out) read (said result) (is out) }
+    ensures { AfterRead (tables ids.now distances.now address.now bits.now routes.now (columns router.now asn.now preference.old path.now origin.now mark.old med.old nid.now peer.now)) policy.now out.old read (said result) out.new }
 {
     match read {
         Read::Refused(r, at) => Revised::SnapshotRefused(r, at),
@@ -91,7 +90,7 @@ fn rewrite_read(
 // What a policy makes of a snapshot: the rewritten snapshot's bytes at the start of the output. Refused as ROOM where the output is shorter
 // than the snapshot given, then as the snapshot is, then as the policy is; then nothing is altered.
 pub fn revise(snapshot: &[u8], policy: &[u8], out: &mut [u8]) -> Revised
-    ensures { (said result ≡ revised_answer (was snapshot) (was policy) (was out)) × (is out ≡ revised_out (was snapshot) (was policy) (was out)) }
+    ensures { (said result ≡ revised_answer snapshot.now policy.now out.old) × (out.new ≡ revised_out snapshot.now policy.now out.old) }
 {
     if out.len() < snapshot.len() {
         return Revised::SnapshotRefused(Refusal::Room, 0);

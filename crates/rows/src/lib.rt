@@ -5,7 +5,7 @@ ghost use Rattle.std.specs.Prelude.{◌≡◌, ◌≤◌, ◌<◌, length, get_o
 ghost use Rattle.model.specs.Rows.{keep, span, column, greatest, keep_least};
 ghost use Rattle.model.specs.Decision.{none};
 ghost use Rattle.model.specs.Contest.{least_or};
-ghost use Rattle.model.specs.Lent.{was, is, col, Inside, Packed};
+ghost use Rattle.model.specs.Lent.{Inside, Packed};
 ghost use Rattle.model.specs.Columns.{most_rows, past_keys};
 ghost use Rattle.model.specs.Listing.{gathered};
 
@@ -38,7 +38,7 @@ pub fn past() -> [u32; MOST_ROWS]
 // The row listed at place i.
 pub fn at(rows: &[u16], i: usize) -> usize
     requires { i < length rows.now }
-    ensures { result ≡ col rows i }
+    ensures { result ≡ column rows.now i }
 {
     rows[i] as usize
 }
@@ -46,7 +46,7 @@ pub fn at(rows: &[u16], i: usize) -> usize
 // The key of the row listed at place i.
 fn key_at(key: &[u32], rows: &[u16], i: usize) -> u32
     requires { (i < length rows.now) × (column rows.now i < length key.now) }
-    ensures { result ≡ col key (col rows i) }
+    ensures { result ≡ column key.now (column rows.now i) }
 {
     let q = at(rows, i);
     key[q]
@@ -55,7 +55,7 @@ fn key_at(key: &[u32], rows: &[u16], i: usize) -> u32
 // Whether the row listed at place i has the key `value`.
 pub fn has_key(key: &[u32], rows: &[u16], i: usize, value: u32) -> bool
     requires { (i < length rows.now) × (column rows.now i < length key.now) }
-    ensures { result ≡ eqb (col key (col rows i)) value }
+    ensures { result ≡ eqb (column key.now (column rows.now i)) value }
 {
     key_at(key, rows, i) == value
 }
@@ -63,7 +63,7 @@ pub fn has_key(key: &[u32], rows: &[u16], i: usize, value: u32) -> bool
 // The least key of the listed rows; the greatest number where none is listed.
 fn least(key: &[u32], rows: &[u16]) -> u32
     requires { Inside (length key.now) rows.now }
-    ensures { result ≡ least_or past_keys (col key) (was rows) }
+    ensures { result ≡ least_or past_keys (column key.now) rows.now }
 {
     let mut low: u32 = PAST_KEYS;
     for i in 0..rows.len() {
@@ -79,7 +79,7 @@ fn least(key: &[u32], rows: &[u16]) -> u32
 // The greatest key of the listed rows; 0 where none is listed.
 pub fn greatest(key: &[u32], rows: &[u16]) -> u32
     requires { Inside (length key.now) rows.now }
-    ensures { result ≡ greatest (col key) (was rows) }
+    ensures { result ≡ greatest (column key.now) rows.now }
 {
     let mut high: u32 = 0;
     for i in 0..rows.len() {
@@ -95,7 +95,7 @@ pub fn greatest(key: &[u32], rows: &[u16]) -> u32
 // Of the listed rows, those whose key is `value`: packed into the front of the list, so many.
 pub fn keep_equal(key: &[u32], rows: &mut [u16], value: u32) -> usize
     requires { Inside (length key.now) rows.old }
-    ensures { Packed result (was rows) (is rows) (keep (λ q. eqb (col key q) value) (was rows)) }
+    ensures { Packed result rows.old rows.new (keep (λ q. eqb (column key.now q) value) rows.old) }
 {
     let mut n: usize = 0;
     for i in 0..rows.len() {
@@ -112,7 +112,7 @@ pub fn keep_equal(key: &[u32], rows: &mut [u16], value: u32) -> usize
 // Of the listed rows, those whose key is the least.
 pub fn keep_least(key: &[u32], rows: &mut [u16]) -> usize
     requires { Inside (length key.now) rows.old }
-    ensures { Packed result (was rows) (is rows) (keep_least (col key) (was rows)) }
+    ensures { Packed result rows.old rows.new (keep_least (column key.now) rows.old) }
 {
     let low = least(key, rows);
     keep_equal(key, rows, low)
@@ -121,7 +121,7 @@ pub fn keep_least(key: &[u32], rows: &mut [u16]) -> usize
 // Lists every row.
 pub fn keep_all(rows: &mut [u16])
     requires { length rows.old ≤ most_rows }
-    ensures { is rows ≡ span 0 (length (was rows)) }
+    ensures { rows.new ≡ span 0 (length rows.old) }
 {
     for i in 0..rows.len() {
         rows[i] = i as u16;
@@ -130,7 +130,7 @@ pub fn keep_all(rows: &mut [u16])
 
 // The first listed row, or none.
 pub fn first(rows: &[u16]) -> u16
-    ensures { result ≡ get_or (was rows) 0 none }
+    ensures { result ≡ get_or rows.now 0 none }
 {
     if rows.len() == 0 {
         return NONE;
@@ -141,7 +141,7 @@ pub fn first(rows: &[u16]) -> u16
 // The keys of the listed rows, in the order of the list.
 pub fn gather(key: &[u32], rows: &[u16], out: &mut [u32])
     requires { Inside (length key.now) rows.now × (length out.old ≡ length rows.now) }
-    ensures { is out ≡ gathered (was key) (was rows) }
+    ensures { out.new ≡ gathered key.now rows.now }
 {
     for i in 0..rows.len() {
         out[i] = key_at(key, rows, i);

@@ -7,7 +7,6 @@ ghost use Rattle.std.specs.Prelude.{◌≡◌, false, cond, not, ℕ, suc, min, 
 ghost use Rattle.model.specs.Rows.{keep, table, column};
 ghost use Rattle.model.specs.Decision.{beats_by};
 ghost use Rattle.model.specs.Contest.{times, least_or};
-ghost use Rattle.model.specs.Lent.{was, is, col};
 ghost use Rattle.model.specs.Columns.{most_routers, most_rows, past_keys};
 ghost use Rattle.model.specs.Listing.{own_places, passed_rows, first_place, round_by, start_by, settled_by, Ready};
 
@@ -25,7 +24,7 @@ fn reach(place: u32, end: u32) -> usize
 fn pass(group: &[u32], med: &[u32], ends: &[u32], state: &[u32], low: &mut [u32])
     requires ready { Ready group.now med.now ends.now }
     requires state_len { (length state.now ≡ length ends.now) × (length low.old ≡ most_rows) }
-    ensures { (k : ℕ) → column (is low) k ≡ least_or (col low k) (col med) (keep (λ q. eqb (col group q) k) (passed_rows (own_places (was ends)) (was state) (length (was ends)))) }
+    ensures { (k : ℕ) → column low.new k ≡ least_or (column low.old k) (column med.now) (keep (λ q. eqb (column group.now q) k) (passed_rows (own_places ends.now) state.now (length ends.now))) }
 {
     let mut from: usize = 0;
     for r in 0..ends.len() {
@@ -40,7 +39,7 @@ fn pass(group: &[u32], med: &[u32], ends: &[u32], state: &[u32], low: &mut [u32]
 fn advance(group: &[u32], med: &[u32], low: &[u32], ends: &[u32], state: &mut [u32]) -> bool
     requires ready { Ready group.now med.now ends.now }
     requires state_len { (length state.old ≡ length ends.now) × (length low.now ≡ most_rows) }
-    ensures { (is state ≡ table (length (was ends)) (λ r. first_place (λ q. not (ltb (col low (col group q)) (col med q))) (own_places (was ends) r))) × (result ≡ false → is state ≡ was state) }
+    ensures { (state.new ≡ table (length ends.now) (λ r. first_place (λ q. not (ltb (column low.now (column group.now q)) (column med.now q))) (own_places ends.now r))) × (result ≡ false → state.new ≡ state.old) }
 {
     let mut from: usize = 0;
     let mut moved = false;
@@ -61,7 +60,7 @@ fn advance(group: &[u32], med: &[u32], low: &[u32], ends: &[u32], state: &mut [u
 fn round(group: &[u32], med: &[u32], ends: &[u32], state: &mut [u32]) -> bool
     requires ready { Ready group.now med.now ends.now }
     requires state_len { length state.old ≡ length ends.now }
-    ensures { (is state ≡ round_by (beats_by (col group) (col med)) (own_places (was ends)) (length (was ends)) (was state)) × (result ≡ false → is state ≡ was state) }
+    ensures { (state.new ≡ round_by (beats_by (column group.now) (column med.now)) (own_places ends.now) (length ends.now) state.old) × (result ≡ false → state.new ≡ state.old) }
 {
     let mut low = rows::past();
     pass(group, med, ends, state, &mut low);
@@ -72,7 +71,7 @@ fn round(group: &[u32], med: &[u32], ends: &[u32], state: &mut [u32]) -> bool
 fn settle(group: &[u32], med: &[u32], ends: &[u32], state: &mut [u32])
     requires ready { Ready group.now med.now ends.now }
     requires state_len { length state.old ≡ length ends.now }
-    ensures { is state ≡ times (round_by (beats_by (col group) (col med)) (own_places (was ends)) (length (was ends))) (length (was group)) (was state) }
+    ensures { state.new ≡ times (round_by (beats_by (column group.now) (column med.now)) (own_places ends.now) (length ends.now)) (length group.now) state.old }
 {
     for i in 0..group.len() {
         if !round(group, med, ends, state) {
@@ -98,7 +97,7 @@ fn start_of(late: bool, end: u32) -> u32
 // Every router past its end, or every router at its first place.
 fn start(late: bool, ends: &[u32], state: &mut [u32])
     requires { length state.old ≡ length ends.now }
-    ensures { is state ≡ table (length (was ends)) (start_by late (was ends)) }
+    ensures { state.new ≡ table (length ends.now) (start_by late ends.now) }
 {
     for r in 0..ends.len() {
         state[r] = start_of(late, ends[r]);
@@ -109,7 +108,7 @@ fn start(late: bool, ends: &[u32], state: &mut [u32])
 pub fn settled(late: bool, group: &[u32], med: &[u32], ends: &[u32], state: &mut [u32])
     requires ready { Ready group.now med.now ends.now }
     requires state_len { length state.old ≡ length ends.now }
-    ensures { is state ≡ settled_by late (was group) (was med) (was ends) }
+    ensures { state.new ≡ settled_by late group.now med.now ends.now }
 {
     start(late, ends, state);
     settle(group, med, ends, state);

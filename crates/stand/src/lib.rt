@@ -3,13 +3,13 @@
 ghost use Rattle.std.specs.Prelude.{◌≡◌, ℕ, ◌≤◌, ◌<◌, true, false, length, get_or};
 ghost use Rattle.model.specs.Rows.{table, column, start};
 ghost use Rattle.model.specs.Decision.{none};
-ghost use Rattle.model.specs.Lent.{was, is, Inside};
+ghost use Rattle.model.specs.Lent.{Inside};
 ghost use Rattle.model.specs.Columns.{most_rows, columns, Fits};
 ghost use Rattle.model.specs.Listing.{counts_in, gathered, groups_in, stands_at, settled_by, rest_in, Ready, RestRows};
 
 // The row listed at a place, or none.
 fn row_at(rows: &[u16], place: u32) -> u16
-    ensures { result ≡ get_or (was rows) place none }
+    ensures { result ≡ get_or rows.now place none }
 {
     let i = place as usize;
     if i < rows.len() {
@@ -21,7 +21,7 @@ fn row_at(rows: &[u16], place: u32) -> u16
 // For each router the contender that stands at the place which the state gives it, or none.
 fn rows_at(order: &[u16], ends: &[u32], state: &[u32], own: &mut [u16])
     requires { (length order.now ≤ most_rows) × (start ends.now (length ends.now) ≡ length order.now) × (length state.now ≡ length ends.now) × (length own.old ≡ length ends.now) }
-    ensures { is own ≡ table (length (was ends)) (stands_at (was order) (was ends) (was state)) }
+    ensures { own.new ≡ table (length ends.now) (stands_at order.now ends.now state.now) }
 {
     let mut from: usize = 0;
     for r in 0..ends.len() {
@@ -43,7 +43,7 @@ fn rest_in(
 )
     requires ready { Ready group.now med.now ends.now }
     requires order_len { (length order.now ≡ length group.now) × (length state.old ≡ length ends.now) × (length own.old ≡ length ends.now) }
-    ensures { is own ≡ table (length (was ends)) (stands_at (was order) (was ends) (settled_by late (was group) (was med) (was ends))) }
+    ensures { own.new ≡ table (length ends.now) (stands_at order.now ends.now (settled_by late group.now med.now ends.now)) }
 {
     settle::settled(late, group, med, ends, state);
     rows_at(order, ends, state, own);
@@ -53,7 +53,7 @@ fn rest_in(
 fn rest(late: bool, order: &[u16], group: &[u32], med: &[u32], ends: &[u32], own: &mut [u16])
     requires ready { Ready group.now med.now ends.now }
     requires order_len { (length order.now ≡ length group.now) × (length own.old ≡ length ends.now) }
-    ensures { is own ≡ table (length (was ends)) (stands_at (was order) (was ends) (settled_by late (was group) (was med) (was ends))) }
+    ensures { own.new ≡ table (length ends.now) (stands_at order.now ends.now (settled_by late group.now med.now ends.now)) }
 {
     let mut state = settle::unplaced();
     let routers = ends.len();
@@ -75,7 +75,7 @@ fn rest_rows(
     requires inside { Inside (length router.now) order.now × (length asn.now ≡ length router.now) × (length med.now ≡ length router.now) × ((q : ℕ) → q < length router.now → column router.now q < length ends.old) }
     requires meds_len { (length meds.old ≡ length order.now) × (length group.old ≡ length order.now) × (length early.old ≡ length ends.old) × (length late.old ≡ length ends.old) }
     requires ready { Ready (groups_in asn.now order.now) (gathered med.now order.now) (counts_in router.now (length ends.old) order.now) }
-    ensures { (is early ≡ rest_in false (length (was ends)) (was router) (was asn) (was med) (was order)) × (is late ≡ rest_in true (length (was ends)) (was router) (was asn) (was med) (was order)) }
+    ensures { (early.new ≡ rest_in false (length ends.old) router.now asn.now med.now order.now) × (late.new ≡ rest_in true (length ends.old) router.now asn.now med.now order.now) }
 {
     contender::ends(router, order, ends);
     rows::gather(med, order, meds);
@@ -99,7 +99,7 @@ pub fn own_rows(
 )
     requires fits { Fits (length early.old) (columns router.now asn.now preference.now path.now origin.now med.now nid.now peer.now) }
     requires late_len { length late.old ≡ length early.old }
-    ensures { RestRows (length (was early)) (columns (was router) (was asn) (was preference) (was path) (was origin) (was med) (was nid) (was peer)) (is early) (is late) }
+    ensures { RestRows (length early.old) (columns router.now asn.now preference.now path.now origin.now med.now nid.now peer.now) early.new late.new }
 {
     let mut list = rows::unlisted();
     let mut order = rows::unlisted();

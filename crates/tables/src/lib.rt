@@ -3,7 +3,6 @@
 #![tactic(auto)]
 ghost use Rattle.std.specs.Prelude.{◌≡◌, ◌+◌, ◌≤◌, ◌<◌, length, eqb, ltb};
 ghost use Rattle.model.specs.Rows.{some, table, column, start};
-ghost use Rattle.model.specs.Lent.{was, col};
 ghost use Rattle.snapshot.specs.Limits.{most_routers, room_distances, farthest, most_prefixes, most_routes};
 ghost use Rattle.snapshot.specs.Plain.{route_is};
 ghost use Rattle.snapshot.specs.Tables.{columns, tables, prefix_tables, RoomPrefixes, Room, Wide};
@@ -28,7 +27,7 @@ fn counts_good(counts: snapshot::Counts) -> bool
 // Whether an id is one of the first k. The loop is not left at the first that is found: so several are looked at in one step.
 fn twin(ids: &[u32], k: usize, id: u32) -> bool
     requires { k ≤ length ids.now }
-    ensures { result ≡ some (eqb id) (table k (col ids)) }
+    ensures { result ≡ some (eqb id) (table k (column ids.now)) }
 {
     let mut found = false;
     let mut i = 0;
@@ -42,7 +41,7 @@ fn twin(ids: &[u32], k: usize, id: u32) -> bool
 // Whether the ids of n routers are in their range, each given once.
 fn ids_good(n: usize, ids: &[u32]) -> bool
     requires { n ≤ length ids.now }
-    ensures { Decides (Below n (IdGood (was ids))) result }
+    ensures { Decides (Below n (IdGood ids.now)) result }
 {
     let mut k = 0;
     while k < n {
@@ -58,7 +57,7 @@ fn ids_good(n: usize, ids: &[u32]) -> bool
 // Whether one of n distances from a cell on is outside its range. The loop is not left at the first: so several are looked at in one step.
 fn far(n: usize, distances: &[u32], first: usize) -> bool
     requires { first + n ≤ length distances.now }
-    ensures { result ≡ some (ltb farthest) (table n (λ k. col distances (first + k))) }
+    ensures { result ≡ some (ltb farthest) (table n (λ k. column distances.now (first + k))) }
 {
     let mut found = false;
     let mut i = 0;
@@ -72,7 +71,7 @@ fn far(n: usize, distances: &[u32], first: usize) -> bool
 // Whether the distances from one router are in their range, and that to itself is 0.
 fn row_good(n: usize, distances: &[u32], from: usize) -> bool
     requires { (from < n) × (n ≤ most_routers) × (room_distances ≤ length distances.now) }
-    ensures { Decides (Below n (CellGood (was distances) from)) result }
+    ensures { Decides (Below n (CellGood distances.now from)) result }
 {
     let first = from * snapshot::STRIDE;
     !((distances[first + from] != 0) | far(n, distances, first))
@@ -81,7 +80,7 @@ fn row_good(n: usize, distances: &[u32], from: usize) -> bool
 // Whether the distances between n routers are in their range.
 fn distances_good(n: usize, distances: &[u32]) -> bool
     requires { (n ≤ most_routers) × (room_distances ≤ length distances.now) }
-    ensures { Decides (Below n (λ from. Below n (CellGood (was distances) from))) result }
+    ensures { Decides (Below n (λ from. Below n (CellGood distances.now from))) result }
 {
     let mut from = 0;
     while from < n {
@@ -96,7 +95,7 @@ fn distances_good(n: usize, distances: &[u32]) -> bool
 // Whether a row of two columns does not rise above the row before it. The first row has none before it.
 fn late_at(a: &[u32], b: &[u32], first: usize, row: usize) -> bool
     requires { (first ≤ row) × (row < length a.now) × (row < length b.now) }
-    ensures { result ≡ late_at (col a) (col b) first row }
+    ensures { result ≡ late_at (column a.now) (column b.now) first row }
 {
     if first == row {
         return false;
@@ -118,7 +117,7 @@ pub fn route_at(
     row: usize,
 ) -> snapshot::Route
     requires { (row < most_routes) × Wide most_routes (columns router.now asn.now preference.now path.now origin.now mark.now med.now nid.now peer.now) }
-    ensures { route_is result ≡ route_at (columns (was router) (was asn) (was preference) (was path) (was origin) (was mark) (was med) (was nid) (was peer)) row }
+    ensures { route_is result ≡ route_at (columns router.now asn.now preference.now path.now origin.now mark.now med.now nid.now peer.now) row }
 {
     snapshot::Route {
         router: router[row],
@@ -149,7 +148,7 @@ fn routes_good(
     count: usize,
 ) -> bool
     requires { (routers ≤ most_routers) × (at + count ≤ most_routes) × Wide most_routes (columns router.now asn.now preference.now path.now origin.now mark.now med.now nid.now peer.now) }
-    ensures { Decides (Below count (RouteGood routers (columns (was router) (was asn) (was preference) (was path) (was origin) (was mark) (was med) (was nid) (was peer)) at)) result }
+    ensures { Decides (Below count (RouteGood routers (columns router.now asn.now preference.now path.now origin.now mark.now med.now nid.now peer.now) at)) result }
 {
     let mut k = 0;
     while k < count {
@@ -193,7 +192,7 @@ fn prefix_good(
 ) -> bool
     requires { (routers ≤ most_routers) × (p < most_prefixes) × (at + column routes.now p ≤ most_routes) × (at ≡ start routes.now p)
         × RoomPrefixes (prefix_tables address.now bits.now routes.now (columns router.now asn.now preference.now path.now origin.now mark.now med.now nid.now peer.now)) }
-    ensures { Decides (PrefixGood routers (prefix_tables (was address) (was bits) (was routes) (columns (was router) (was asn) (was preference) (was path) (was origin) (was mark) (was med) (was nid) (was peer))) p) result }
+    ensures { Decides (PrefixGood routers (prefix_tables address.now bits.now routes.now (columns router.now asn.now preference.now path.now origin.now mark.now med.now nid.now peer.now)) p) result }
 {
     let count = routes[p];
     if (snapshot::MOST_IN_PREFIX < count)
@@ -235,7 +234,7 @@ fn prefixes_good(
     peer: &[u32],
 ) -> bool
     requires { InRange counts × RoomPrefixes (prefix_tables address.now bits.now routes.now (columns router.now asn.now preference.now path.now origin.now mark.now med.now nid.now peer.now)) }
-    ensures { Decides (Totalled counts (prefix_tables (was address) (was bits) (was routes) (columns (was router) (was asn) (was preference) (was path) (was origin) (was mark) (was med) (was nid) (was peer)))) result }
+    ensures { Decides (Totalled counts (prefix_tables address.now bits.now routes.now (columns router.now asn.now preference.now path.now origin.now mark.now med.now nid.now peer.now))) result }
 {
     let mut at = 0;
     let mut p = 0;
@@ -288,7 +287,7 @@ fn judge(
     peer: &[u32],
 ) -> bool
     requires { Room (tables ids.now distances.now address.now bits.now routes.now (columns router.now asn.now preference.now path.now origin.now mark.now med.now nid.now peer.now)) }
-    ensures { Judged counts (tables (was ids) (was distances) (was address) (was bits) (was routes) (columns (was router) (was asn) (was preference) (was path) (was origin) (was mark) (was med) (was nid) (was peer))) result }
+    ensures { Judged counts (tables ids.now distances.now address.now bits.now routes.now (columns router.now asn.now preference.now path.now origin.now mark.now med.now nid.now peer.now)) result }
 {
     if !counts_good(counts) {
         return false;
@@ -322,7 +321,7 @@ pub fn examine(
     nid: &[u32],
     peer: &[u32],
 ) -> Verdict
-    ensures { Verdicts counts (tables (was ids) (was distances) (was address) (was bits) (was routes) (columns (was router) (was asn) (was preference) (was path) (was origin) (was mark) (was med) (was nid) (was peer))) (numbered result) }
+    ensures { Verdicts counts (tables ids.now distances.now address.now bits.now routes.now (columns router.now asn.now preference.now path.now origin.now mark.now med.now nid.now peer.now)) (numbered result) }
 {
     if snapshot::lacks_room(
         ids.len(),

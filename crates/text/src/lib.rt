@@ -1,13 +1,12 @@
 // Words and numbers put into a lent buffer as bytes. Each call answers the place after what it put.
 #![tactic(auto)]
 ghost use Rattle.std.specs.Prelude.{◌≡◌, ◌+◌, ◌≤◌, length};
-ghost use Rattle.model.specs.Lent.{was, is};
 ghost use Rattle.text.specs.Text.{width, digits, decimal, Puts};
 
 // Puts a text.
 pub fn put_text(out: &mut [u8], at: usize, text: &[u8]) -> usize
     requires { at + length text.now ≤ length out.old }
-    ensures { Puts (was out) (is out) at result (was text) }
+    ensures { Puts out.old out.new at result text.now }
 {
     let mut k = 0;
     while k < text.len() {
@@ -33,7 +32,7 @@ fn digits_of(n: u64) -> usize
 // Puts the last k digits of a number, from the last to the first.
 fn put_digits(out: &mut [u8], at: usize, n: u64, k: usize)
     requires { at + k ≤ length out.old }
-    ensures { Puts (was out) (is out) at (at + k) (digits k n) }
+    ensures { Puts out.old out.new at (at + k) (digits k n) }
 {
     let mut left = k;
     let mut rest = n;
@@ -47,7 +46,7 @@ fn put_digits(out: &mut [u8], at: usize, n: u64, k: usize)
 // Puts a number in decimal.
 pub fn put_decimal(out: &mut [u8], at: usize, n: u64) -> usize
     requires { at + length (decimal n) ≤ length out.old }
-    ensures { Puts (was out) (is out) at result (decimal n) }
+    ensures { Puts out.old out.new at result (decimal n) }
 {
     let k = digits_of(n);
     put_digits(out, at, n, k);

@@ -2,7 +2,6 @@
 #![tactic(auto)]
 ghost use Rattle.std.specs.Prelude.{◌≡◌, ◌+◌, ◌*◌, ◌-◌, ◌≤◌, ◌<◌, length, T};
 ghost use Rattle.model.specs.Rows.{table, column, start};
-ghost use Rattle.model.specs.Lent.{was, is, col};
 ghost use Rattle.snapshot.specs.Limits.{most_routers, room_distances, most_prefixes, most_routes};
 ghost use Rattle.snapshot.specs.Records.{four_byte_route_form, size};
 ghost use Rattle.snapshot.specs.Format.{routers_bytes, prefixes_bytes, routes_bytes};
@@ -26,7 +25,7 @@ pub enum Write {
 // The router records.
 fn put_ids(n: usize, ids: &[u32], out: &mut [u8], first: usize) -> usize
     requires { (n ≤ most_routers) × (most_routers ≤ length ids.now) × Space (routers_bytes 0 (table n (column ids.now))) out.old first }
-    ensures { Puts (routers_bytes 0 (table n (col ids))) (was out) first (is out) result }
+    ensures { Puts (routers_bytes 0 (table n (column ids.now))) out.old first out.new result }
 {
     let mut at = first;
     let mut k = 0;
@@ -41,7 +40,7 @@ fn put_ids(n: usize, ids: &[u32], out: &mut [u8], first: usize) -> usize
 // The distance records from one router.
 fn put_row(n: usize, distances: &[u32], from: usize, out: &mut [u8], first: usize) -> usize
     requires { (n ≤ most_routers) × (from < n) × (room_distances ≤ length distances.now) × Space (row_bytes distances.now n from) out.old first }
-    ensures { Puts (row_bytes (was distances) n from) (was out) first (is out) result }
+    ensures { Puts (row_bytes distances.now n from) out.old first out.new result }
 {
     let mut at = first;
     let mut to = 0;
@@ -67,7 +66,7 @@ fn put_row(n: usize, distances: &[u32], from: usize, out: &mut [u8], first: usiz
 // The distance records.
 fn put_distances(n: usize, distances: &[u32], out: &mut [u8], first: usize) -> usize
     requires { (n ≤ most_routers) × (room_distances ≤ length distances.now) × Space (rows_bytes distances.now n) out.old first }
-    ensures { Puts (rows_bytes (was distances) n) (was out) first (is out) result }
+    ensures { Puts (rows_bytes distances.now n) out.old first out.new result }
 {
     let mut at = first;
     let mut from = 0;
@@ -82,7 +81,7 @@ fn put_distances(n: usize, distances: &[u32], out: &mut [u8], first: usize) -> u
 fn put_network(n: usize, ids: &[u32], distances: &[u32], out: &mut [u8]) -> usize
     requires { (n ≤ most_routers) × (most_routers ≤ length ids.now) × (room_distances ≤ length distances.now)
         × Space (network_bytes ids.now distances.now n) out.old 0 }
-    ensures { Puts (network_bytes (was ids) (was distances) n) (was out) 0 (is out) result }
+    ensures { Puts (network_bytes ids.now distances.now n) out.old 0 out.new result }
 {
     records::put_count(out, 0, n as u32);
     let at = put_ids(n, ids, out, snapshot::COUNT_SIZE);
@@ -106,7 +105,7 @@ fn put_routes(
     first: usize,
 ) -> usize
     requires { (row + count ≤ most_routes) × Wide most_routes (columns router.now asn.now preference.now path.now origin.now mark.now med.now nid.now peer.now) × Space (routes_bytes (routes_at (columns router.now asn.now preference.now path.now origin.now mark.now med.now nid.now peer.now) row count)) out.old first }
-    ensures { Puts (routes_bytes (routes_at (columns (was router) (was asn) (was preference) (was path) (was origin) (was mark) (was med) (was nid) (was peer)) row count)) (was out) first (is out) result }
+    ensures { Puts (routes_bytes (routes_at (columns router.now asn.now preference.now path.now origin.now mark.now med.now nid.now peer.now) row count)) out.old first out.new result }
 {
     let mut at = first;
     let mut k = 0;
@@ -151,7 +150,7 @@ fn put_prefix(
 ) -> usize
     requires { (p < most_prefixes) × (row + column routes.now p ≤ most_routes)
         × RoomPrefixes (prefix_tables address.now bits.now routes.now (columns router.now asn.now preference.now path.now origin.now mark.now med.now nid.now peer.now)) × Space (prefix_bytes (prefix_from (prefix_tables address.now bits.now routes.now (columns router.now asn.now preference.now path.now origin.now mark.now med.now nid.now peer.now)) p row)) out.old first }
-    ensures { Puts (prefix_bytes (prefix_from (prefix_tables (was address) (was bits) (was routes) (columns (was router) (was asn) (was preference) (was path) (was origin) (was mark) (was med) (was nid) (was peer))) p row)) (was out) first (is out) result }
+    ensures { Puts (prefix_bytes (prefix_from (prefix_tables address.now bits.now routes.now (columns router.now asn.now preference.now path.now origin.now mark.now med.now nid.now peer.now)) p row)) out.old first out.new result }
 {
     let count = routes[p] as usize;
     records::put_prefix(out, first, address[p], bits[p]);
@@ -192,7 +191,7 @@ fn put_prefixes(
 ) -> usize
     requires { (n ≤ most_prefixes) × (start routes.now n ≤ most_routes) × RoomPrefixes (prefix_tables address.now bits.now routes.now (columns router.now asn.now preference.now path.now origin.now mark.now med.now nid.now peer.now))
         × Space (prefixes_bytes (table n (prefix_at (prefix_tables address.now bits.now routes.now (columns router.now asn.now preference.now path.now origin.now mark.now med.now nid.now peer.now))))) out.old first }
-    ensures { Puts (prefixes_bytes (table n (prefix_at (prefix_tables (was address) (was bits) (was routes) (columns (was router) (was asn) (was preference) (was path) (was origin) (was mark) (was med) (was nid) (was peer)))))) (was out) first (is out) result }
+    ensures { Puts (prefixes_bytes (table n (prefix_at (prefix_tables address.now bits.now routes.now (columns router.now asn.now preference.now path.now origin.now mark.now med.now nid.now peer.now))))) out.old first out.new result }
 {
     let mut at = first;
     let mut row = 0;
@@ -221,7 +220,7 @@ fn pair_count(n: u32) -> u32
 // The bytes of the records of n routes, by their ASes.
 fn routes_size(n: usize, asn: &[u32]) -> usize
     requires { (n ≤ most_routes) × (n ≤ length asn.now) }
-    ensures { (result ≡ routes_of (was asn) n) × (result ≤ size four_byte_route_form * most_routes) }
+    ensures { (result ≡ routes_of asn.now n) × (result ≤ size four_byte_route_form * most_routes) }
 {
     let mut total = 0;
     let mut k = 0;
@@ -235,7 +234,7 @@ fn routes_size(n: usize, asn: &[u32]) -> usize
 // The bytes of the snapshot with these counts and ASes.
 fn size(counts: Counts, asn: &[u32]) -> usize
     requires { InRange counts × (most_routes ≤ length asn.now) }
-    ensures { result ≡ size_of counts (was asn) }
+    ensures { result ≡ size_of counts asn.now }
 {
     let pairs = pair_count(counts.routers);
     let routes = routes_size(counts.routes as usize, asn);
@@ -276,7 +275,7 @@ fn write_held(
     out: &mut [u8],
 ) -> Write
     requires { T (none (short (tables ids.now distances.now address.now bits.now routes.now (columns router.now asn.now preference.now path.now origin.now mark.now med.now nid.now peer.now)))) × Holding counts (tables ids.now distances.now address.now bits.now routes.now (columns router.now asn.now preference.now path.now origin.now mark.now med.now nid.now peer.now)) }
-    ensures { Writes counts (tables (was ids) (was distances) (was address) (was bits) (was routes) (columns (was router) (was asn) (was preference) (was path) (was origin) (was mark) (was med) (was nid) (was peer))) (was out) (said result) (is out) }
+    ensures { Writes counts (tables ids.now distances.now address.now bits.now routes.now (columns router.now asn.now preference.now path.now origin.now mark.now med.now nid.now peer.now)) out.old (said result) out.new }
 {
     let n = size(counts, asn);
     if out.len() < n {
@@ -325,7 +324,7 @@ pub fn write_snapshot(
     peer: &[u32],
     out: &mut [u8],
 ) -> Write
-    ensures { Writes counts (tables (was ids) (was distances) (was address) (was bits) (was routes) (columns (was router) (was asn) (was preference) (was path) (was origin) (was mark) (was med) (was nid) (was peer))) (was out) (said result) (is out) }
+    ensures { Writes counts (tables ids.now distances.now address.now bits.now routes.now (columns router.now asn.now preference.now path.now origin.now mark.now med.now nid.now peer.now)) out.old (said result) out.new }
 {
     match tables::examine(
         counts, ids, distances, address, bits, routes, router, asn, preference, path, origin, mark,

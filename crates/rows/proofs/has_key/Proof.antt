@@ -4,4 +4,4 @@ use Rattle.rows.proofs.has_key.Statement.{statement}
 use Rattle.rows.proofs.has_key.Tie as tie
 
 pub has_key_spec : {M : Type 1} → statement M
-has_key_spec = tie.close (tie.spec (λ c κs. search rules) (λ c. rw c.key-at.ensures))
+has_key_spec = tie.close (tie.spec (λ c κs. search rules) (λ c. rw c.key_at.ensures))

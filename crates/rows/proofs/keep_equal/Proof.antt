@@ -8,19 +8,19 @@ use Rattle.model.specs.ListLaws.{Pack, pack_end, squeeze, squeeze_here, squeeze_
 use Rattle.rows.proofs.keep_equal.Statement.{statement}
 use Rattle.rows.proofs.keep_equal.Tie as tie
 
-abbrev invariant-loop : tie.invariant-loop
-invariant-loop key rows₀ value n₀ i₀ i-end rows n i = Pack (λ q. eqb (column key q) value) rows₀ rows₀ i n rows
+abbrev invariant-loop-i : tie.invariant-loop-i
+invariant-loop-i key rows₀ value n₀ i₀ i-end rows n i = Pack (λ q. eqb (column key q) value) rows₀ rows₀ i n rows
 
-abbrev decreases-loop : tie.decreases-loop
-decreases-loop key rows₀ value n₀ i₀ i-end rows n i = length rows₀ - i
+abbrev decreases-loop-i : tie.decreases-loop-i
+decreases-loop-i key rows₀ value n₀ i₀ i-end rows n i = length rows₀ - i
 
-has-key-requires : tie.Need-has-key-requires invariant-loop decreases-loop
+has-key-requires : tie.Need-has_key-requires invariant-loop-i decreases-loop-i
 has-key-requires c κs =
-    let start : tie.Start invariant-loop decreases-loop = search rules in
-    let at : tie.At-loop invariant-loop decreases-loop = search rules in
-    let turn : tie.In-loop invariant-loop decreases-loop = search rules in
-    (search rules, rw (squeeze_here at.loop.inv) (start.pre.below _ turn.loop-test.taken))
+    let start : tie.Start invariant-loop-i decreases-loop-i = search rules in
+    let at : tie.At-loop-i invariant-loop-i decreases-loop-i = search rules in
+    let turn : tie.In-loop-i invariant-loop-i decreases-loop-i = search rules in
+    (search rules, rw (squeeze_here at.loop-i.invariant) (start.requires.below _ turn.loop-i-test.true))
 
 pub keep_equal_spec : {M : Type 1} → statement M
 keep_equal_spec =
-    tie.close (tie.spec invariant-loop decreases-loop (λ c. search squeeze) (λ c. search rules) (λ c. search rules) has-key-requires (λ c. search rules) (λ c. search rules) (λ c. search rules) (λ c. search rules) (λ c. search rules) (λ c. search squeeze_on) (λ c. search rules) (λ c. search rules) (λ c. search squeeze_off) (λ c. search rules) (λ c. search pack_end))
+    tie.close (tie.spec invariant-loop-i decreases-loop-i (λ c. search squeeze) (λ c. search rules) (λ c. search rules) has-key-requires (λ c. search rules) (λ c. search rules) (λ c. search rules) (λ c. search rules) (λ c. search rules) (λ c. search squeeze_on) (λ c. search rules) (λ c. search rules) (λ c. search squeeze_off) (λ c. search rules) (λ c. search pack_end))

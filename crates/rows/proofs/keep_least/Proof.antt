@@ -14,14 +14,14 @@ use Rattle.rows.proofs.keep_least.Tie as tie
 returns : tie.Need-returns
 returns c =
     let start : tie.Start = search rules in
-    let known : tie.After-shared-slice-known = search rules in
-    let low : tie.After-least = search rules in
-    let kept : tie.After-keep-equal = search rules in
+    let known : tie.After-shared_slice_known-1 = search rules in
+    let low : tie.After-least-low = search rules in
+    let kept : tie.After-keep_equal = search rules in
     let rows = start.args.rows.now in
     let key = column start.args.key.now in
-    packed_is kept.keep-equal.ensures (
-    ap (λ (value : ℕ). keep (λ q. eqb (key q) value) rows) low.least.ensures
-    ∙ sym (keep_least_lem past_keys key (λ q. omega (arith, known.shared-slice-known.given q)) rows)
+    packed_is kept.keep_equal.ensures (
+    ap (λ (value : ℕ). keep (λ q. eqb (key q) value) rows) low.least-low.ensures
+    ∙ sym (keep_least_lem past_keys key (λ q. omega (arith, known.shared_slice_known-1.given q)) rows)
     )
 
 pub keep_least_spec : {M : Type 1} → statement M

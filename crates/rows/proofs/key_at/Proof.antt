@@ -8,8 +8,8 @@ use Rattle.rows.proofs.key_at.Tie as tie
 returns : tie.Need-returns
 returns c =
     let start : tie.Start = search rules in
-    let row : tie.After-at = search rules in
-    ap (column start.args.key.now) row.at.ensures
+    let row : tie.After-at-q = search rules in
+    ap (column start.args.key.now) row.at-q.ensures
 
 pub key_at_spec : {M : Type 1} → statement M
 key_at_spec = tie.close (tie.spec (λ c κs. search rules) (λ c. search rules) (λ c. search rules) returns)
