@@ -8,17 +8,17 @@ use Rattle.model.specs.ListLaws.{Hunt, hunt, hunt_off, hunt_hit, hunt_end}
 use Rattle.choice.proofs.any_own.Statement.{statement}
 use Rattle.choice.proofs.any_own.Tie as tie
 
-abbrev invariant-loop : tie.invariant-loop
-invariant-loop router rows r i₀ i-end i = Hunt (λ q. eqb (column router q) r) rows i
+abbrev invariant-loop-i : tie.invariant-loop-i
+invariant-loop-i router rows r i₀ i-end i = Hunt (λ q. eqb (column router q) r) rows i
 
-abbrev decreases-loop : tie.decreases-loop
-decreases-loop router rows r i₀ i-end i = length rows - i
+abbrev decreases-loop-i : tie.decreases-loop-i
+decreases-loop-i router rows r i₀ i-end i = length rows - i
 
-has-key-requires : tie.Need-has-key-requires invariant-loop decreases-loop
+has-key-requires : tie.Need-has_key-requires invariant-loop-i decreases-loop-i
 has-key-requires c κs =
-    let start : tie.Start invariant-loop decreases-loop = search rules in
-    (search rules, start.pre.below _ c.loop-test.true)
+    let start : tie.Start invariant-loop-i decreases-loop-i = search rules in
+    (search rules, start.requires.below _ c.loop-i-test.true)
 
 pub any_own_spec : {M : Type 1} → statement M
 any_own_spec =
-    tie.close (tie.spec invariant-loop decreases-loop (λ c. search hunt) has-key-requires (λ c. search hunt_hit) (λ c. search rules) (λ c. search rules) (λ c. search hunt_off) (λ c. search hunt_end))
+    tie.close (tie.spec invariant-loop-i decreases-loop-i (λ c. search hunt) has-key-requires (λ c. search hunt_hit) (λ c. search rules) (λ c. search rules) (λ c. search hunt_off) (λ c. search hunt_end))

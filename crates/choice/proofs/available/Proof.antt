@@ -13,55 +13,55 @@ use Rattle.model.specs.ListLaws.{Pack, pack, pack_off, pack_on, pack_end, packed
 use Rattle.choice.proofs.available.Statement.{statement}
 use Rattle.choice.proofs.available.Tie as tie
 
-abbrev invariant-loop : tie.invariant-loop
-invariant-loop router held r rows₀ n₀ q₀ q-end rows n q = Pack (λ q. eqb (column router q) r || eqb (get_or held (column router q) none) q) (span 0 (length router)) rows₀ q n rows
+abbrev invariant-loop-q : tie.invariant-loop-q
+invariant-loop-q router held r rows₀ n₀ q₀ q-end rows n q = Pack (λ q. eqb (column router q) r || eqb (get_or held (column router q) none) q) (span 0 (length router)) rows₀ q n rows
 
-abbrev decreases-loop : tie.decreases-loop
-decreases-loop router held r rows₀ n₀ q₀ q-end rows n q = length router - q
+abbrev decreases-loop-q : tie.decreases-loop-q
+decreases-loop-q router held r rows₀ n₀ q₀ q-end rows n q = length router - q
 
-loop-holds : tie.Need-loop-init invariant-loop decreases-loop
+loop-holds : tie.Need-loop-q-init invariant-loop-q decreases-loop-q
 loop-holds c =
-    let start : tie.Start invariant-loop decreases-loop = search rules in
+    let start : tie.Start invariant-loop-q decreases-loop-q = search rules in
     pack (omega (arith, length_span 0 (length start.args.router.now)))
 
-offered-requires : tie.Need-offered-requires invariant-loop decreases-loop
+offered-requires : tie.Need-offered-requires invariant-loop-q decreases-loop-q
 offered-requires c κs =
-    let start : tie.Start invariant-loop decreases-loop = search rules in
-    (search rules, start.pre.2 _ c.loop-test.true)
+    let start : tie.Start invariant-loop-q decreases-loop-q = search rules in
+    (search rules, start.requires.2 _ c.loop-q-test.true)
 
-slice-write-rows : tie.Need-slice-write-rows invariant-loop decreases-loop
+slice-write-rows : tie.Need-bounds-rows-n invariant-loop-q decreases-loop-q
 slice-write-rows c =
-    let start : tie.Start invariant-loop decreases-loop = search rules in
-    let at : tie.At-loop invariant-loop decreases-loop = search rules in
-    let turn : tie.In-loop invariant-loop decreases-loop = search rules in
-    omega (arith, turn.loop-test.taken, at.loop.inv.few, at.loop.inv.long)
+    let start : tie.Start invariant-loop-q decreases-loop-q = search rules in
+    let at : tie.At-loop-q invariant-loop-q decreases-loop-q = search rules in
+    let turn : tie.In-loop-q invariant-loop-q decreases-loop-q = search rules in
+    omega (arith, turn.loop-q-test.true, at.loop-q.invariant.few, at.loop-q.invariant.long)
 
-loop-again : tie.Need-loop-preserved invariant-loop decreases-loop
+loop-again : tie.Need-loop-q-preserved-then-offered invariant-loop-q decreases-loop-q
 loop-again c =
-    let start : tie.Start invariant-loop decreases-loop = search rules in
-    let at : tie.At-loop invariant-loop decreases-loop = search rules in
-    let turn : tie.In-loop invariant-loop decreases-loop = search rules in
-    let offer : tie.After-offered invariant-loop decreases-loop = search rules in
-    let branch : tie.Then1 invariant-loop decreases-loop = search rules in
+    let start : tie.Start invariant-loop-q decreases-loop-q = search rules in
+    let at : tie.At-loop-q invariant-loop-q decreases-loop-q = search rules in
+    let turn : tie.In-loop-q invariant-loop-q decreases-loop-q = search rules in
+    let offer : tie.After-offered invariant-loop-q decreases-loop-q = search rules in
+    let branch : tie.Then-offered invariant-loop-q decreases-loop-q = search rules in
     let rows = length start.args.router.now in
-    let here = span_at rows at.loop.q turn.loop-test.taken in
-    pack_on at.loop.inv (omega (arith, length_span 0 rows, turn.loop-test.taken)) (rw here offer.offered.ensures) branch.if1.taken (sym here)
+    let here = span_at rows at.loop-q.q turn.loop-q-test.true in
+    pack_on at.loop-q.invariant (omega (arith, length_span 0 rows, turn.loop-q-test.true)) (rw here offer.offered.ensures) branch.if-offered.true (sym here)
 
-loop-again-2 : tie.Need-loop-preserved-2 invariant-loop decreases-loop
+loop-again-2 : tie.Need-loop-q-preserved invariant-loop-q decreases-loop-q
 loop-again-2 c =
-    let start : tie.Start invariant-loop decreases-loop = search rules in
-    let at : tie.At-loop invariant-loop decreases-loop = search rules in
-    let turn : tie.In-loop invariant-loop decreases-loop = search rules in
-    let offer : tie.After-offered invariant-loop decreases-loop = search rules in
+    let start : tie.Start invariant-loop-q decreases-loop-q = search rules in
+    let at : tie.At-loop-q invariant-loop-q decreases-loop-q = search rules in
+    let turn : tie.In-loop-q invariant-loop-q decreases-loop-q = search rules in
+    let offer : tie.After-offered invariant-loop-q decreases-loop-q = search rules in
     let rows = length start.args.router.now in
-    let here = span_at rows at.loop.q turn.loop-test.taken in
-    pack_off at.loop.inv (omega (arith, length_span 0 rows, turn.loop-test.taken)) (rw here offer.offered.ensures) c.if1.false
+    let here = span_at rows at.loop-q.q turn.loop-q-test.true in
+    pack_off at.loop-q.invariant (omega (arith, length_span 0 rows, turn.loop-q-test.true)) (rw here offer.offered.ensures) c.if-offered.false
 
-returns : tie.Need-returns invariant-loop decreases-loop
+returns : tie.Need-returns invariant-loop-q decreases-loop-q
 returns c =
-    let start : tie.Start invariant-loop decreases-loop = search rules in
-    packed_front (pack_end c.before.loop.invariant (omega (arith, length_span 0 (length start.args.router.now), c.loop-test.false)))
+    let start : tie.Start invariant-loop-q decreases-loop-q = search rules in
+    packed_front (pack_end c.before.loop-q.invariant (omega (arith, length_span 0 (length start.args.router.now), c.loop-q-test.false)))
 
 pub available_spec : {M : Type 1} → statement M
 available_spec =
-    tie.close (tie.spec invariant-loop decreases-loop loop-holds offered-requires (λ c. search rules) (λ c. search rules) slice-write-rows (λ c. search rules) (λ c. search rules) (λ c. search rules) loop-again (λ c. search rules) (λ c. search rules) loop-again-2 (λ c. search rules) returns)
+    tie.close (tie.spec invariant-loop-q decreases-loop-q loop-holds offered-requires (λ c. search rules) (λ c. search rules) slice-write-rows (λ c. search rules) (λ c. search rules) (λ c. search rules) loop-again (λ c. search rules) (λ c. search rules) loop-again-2 (λ c. search rules) returns)

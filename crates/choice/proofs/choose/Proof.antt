@@ -5,10 +5,10 @@ use borrow.Author.Rules.{rules}
 use Rattle.choice.proofs.choose.Statement.{statement}
 use Rattle.choice.proofs.choose.Tie as tie
 
-choose-in-requires : tie.Need-choose-in-requires
+choose-in-requires : tie.Need-choose_in-requires
 choose-in-requires c κs =
     let start : tie.Start = search rules in
-    (start.pre.0, (start.pre.1, simp length-take (omega arith), simp length-take (omega arith), simp length-take (omega arith)))
+    (start.requires.0, (start.requires.1, simp length-take (omega arith), simp length-take (omega arith), simp length-take (omega arith)))
 
 pub choose_spec : {M : Type 1} → statement M
 choose_spec =

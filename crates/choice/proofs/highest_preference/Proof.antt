@@ -5,9 +5,9 @@ use Rattle.choice.proofs.highest_preference.Tie as tie
 
 returns : tie.Need-returns
 returns c =
-    let high : tie.After-greatest = search rules in
-    let kept : tie.After-keep-equal = search rules in
-    rw high.greatest.ensures at kept.keep-equal.ensures
+    let high : tie.After-greatest-high = search rules in
+    let kept : tie.After-keep_equal = search rules in
+    rw high.greatest-high.ensures at kept.keep_equal.ensures
 
 pub highest_preference_spec : {M : Type 1} → statement M
 highest_preference_spec =

@@ -7,17 +7,17 @@ use Rattle.model.specs.ColumnLaws.{get_or_inside}
 use Rattle.choice.proofs.offered.Statement.{statement}
 use Rattle.choice.proofs.offered.Tie as tie
 
-cast-row : tie.Need-overflow-cast-row
+cast-row : tie.Need-overflow_cast-row
 cast-row c =
     let start : tie.Start = search rules in
     let a = start.args in
-    omega (arith, c.shared-slice-known2.given (column a.router.now a.q))
+    omega (arith, c.shared_slice_known-2-1.given (column a.router.now a.q))
 
 returns : tie.Need-returns
 returns c =
     let start : tie.Start = search rules in
     let a = start.args in
-    rw (get_or_inside a.held.now (column a.router.now a.q) none 0 start.pre.1)
+    rw (get_or_inside a.held.now (column a.router.now a.q) none 0 start.requires.1)
 
 pub offered_spec : {M : Type 1} → statement M
 offered_spec =

@@ -5,19 +5,19 @@ use Rattle.model.specs.ListLaws.{front_all, packed_front}
 use Rattle.choice.proofs.own_if_any.Statement.{statement}
 use Rattle.choice.proofs.own_if_any.Tie as tie
 
-returns : tie.Need-returns
+returns : tie.Need-returns-then-any_own
 returns c =
-    let any : tie.After-any-own = search rules in
-    let branch : tie.Then1 = search rules in
-    let kept : tie.After-keep-equal = search rules in
-    rw (sym any.any-own.ensures ∙ branch.if1.taken) (packed_front kept.keep-equal.ensures)
+    let any : tie.After-any_own = search rules in
+    let branch : tie.Then-any_own = search rules in
+    let kept : tie.After-keep_equal = search rules in
+    rw (sym any.any_own.ensures ∙ branch.if-any_own.true) (packed_front kept.keep_equal.ensures)
 
-returns-2 : tie.Need-returns-2
+returns-2 : tie.Need-returns
 returns-2 c =
     let start : tie.Start = search rules in
-    let any : tie.After-any-own = search rules in
-    let branch : tie.Else1 = search rules in
-    rw (sym any.any-own.ensures ∙ branch.if1.left) (front_all start.args.rows.now)
+    let any : tie.After-any_own = search rules in
+    let branch : tie.Else-any_own = search rules in
+    rw (sym any.any_own.ensures ∙ branch.if-any_own.false) (front_all start.args.rows.now)
 
 pub own_if_any_spec : {M : Type 1} → statement M
 own_if_any_spec =

@@ -12,13 +12,13 @@ asn_at_spec =
     tie.close
     (tie.spec
     (λ c. search rules)
-    (λ c κs. let s : tie.Start = search rules in omega (arith, s.pre, route_least s.args.four))
+    (λ c κs. let s : tie.Start = search rules in omega (arith, s.requires, route_least s.args.four))
     (λ c κs. search rules)
-    (λ c. let s : tie.Start = search rules in omega (arith, c.bits-behind.ensures, bits_few s.args.four))
+    (λ c. let s : tie.Start = search rules in omega (arith, c.bits_behind.ensures, bits_few s.args.four))
     (λ c.
     let s : tie.Start = search rules in
-    let g : tie.After-get32 = search rules in
-    let b : tie.After-bits-behind = search rules in
-    let known : tie.After-shared-slice-known = search rules in
-    ap₂ (λ (n k : ℕ). n / 2 ^ k) g.get32.ensures b.bits-behind.ensures
-    ∙ asn_left s.args.input.now s.args.at (λ k. (known.shared-slice-known.given k).fits) s.args.four))
+    let g : tie.After-get32-bytes = search rules in
+    let b : tie.After-bits_behind = search rules in
+    let known : tie.After-shared_slice_known-1 = search rules in
+    ap₂ (λ (n k : ℕ). n / 2 ^ k) g.get32-bytes.ensures b.bits_behind.ensures
+    ∙ asn_left s.args.input.now s.args.at (λ k. (known.shared_slice_known-1.given k).fits) s.args.four))

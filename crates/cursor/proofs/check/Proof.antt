@@ -4,4 +4,4 @@ use Rattle.cursor.proofs.check.Tie as tie
 
 pub check_spec : {M : Type 1} → statement M
 check_spec =
-    tie.close (tie.spec (λ c. simp c.if1.true) (λ c. simp c.if1.false))
+    tie.close (tie.spec (λ c. simp c.if-holds.true) (λ c. simp c.if-holds.false))

@@ -21,4 +21,4 @@ prefix_faults_spec =
     let l = k.before in
     let b = l.before.before in
     let order = k.check.ensures ∙ (λ i. cond (not (not (eqb b.before.args.k.prefixes 0) && l.late.ensures i)) Clear (Fault Order)) in
-    c.check2.ensures ∙ (λ i. cond (not (b.prefix_bad.ensures i)) (order i) (Fault Field))))
+    c.check-2.ensures ∙ (λ i. cond (not (b.prefix_bad-field.ensures i)) (order i) (Fault Field))))

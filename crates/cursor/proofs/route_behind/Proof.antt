@@ -28,8 +28,8 @@ route_behind_spec =
       preference = c.before.before.before.before.before.before.get32.ensures i;
       path = c.before.before.before.before.before.get16.ensures i;
       origin = c.before.before.before.before.get8.ensures i;
-      mark = c.before.before.before.get82.ensures i;
-      med = c.before.before.get322.ensures i;
-      nid = c.before.get323.ensures i;
-      peer = c.get324.ensures i;
+      mark = c.before.before.before.get8-2.ensures i;
+      med = c.before.before.get32-2.ensures i;
+      nid = c.before.get32-3.ensures i;
+      peer = c.get32-4.ensures i;
     }))

@@ -22,12 +22,12 @@ route_faults_spec =
     (λ c κs. search rules)
     (λ c.
     let s : tie.Start = search rules in
-    let four : tie.After-four-byte = search rules in
-    let kind : tie.After-route-kind = search rules in
-    let bad : tie.After-route-bad = search rules in
+    let four : tie.After-four_byte = search rules in
+    let kind : tie.After-route_kind = search rules in
+    let bad : tie.After-route_bad-field = search rules in
     let late : tie.After-late = search rules in
     let last : tie.After-check = search rules in
-    let chosen = kind.route-kind.ensures ∙ ap (λ (b : Bool). (route_form_by b).kind) four.four-byte.ensures in
+    let chosen = kind.route_kind.ensures ∙ ap (λ (b : Bool). (route_form_by b).kind) four.four_byte.ensures in
     let order = last.check.ensures ∙ (λ i. cond (not (not (eqb s.args.k.inside 0) && late.late.ensures i)) Clear (Fault Order)) in
-    let field = c.before.check2.ensures ∙ (λ i. cond (not (bad.route_bad.ensures i)) (order i) (Fault Field)) in
-    c.check3.ensures ∙ (λ i. cond (eqb s.args.kind (chosen i)) (field i) (Fault Field))))
+    let field = c.before.check-2.ensures ∙ (λ i. cond (not (bad.route_bad-field.ensures i)) (order i) (Fault Field)) in
+    c.check-3.ensures ∙ (λ i. cond (eqb s.args.kind (chosen i)) (field i) (Fault Field))))

@@ -9,26 +9,26 @@ use Rattle.cursor.specs.Steps.{id_at, router_place}
 use Rattle.cursor.proofs.twin.Statement.{statement}
 use Rattle.cursor.proofs.twin.Tie as tie
 
-abbrev invariant-loop : tie.invariant-loop
-invariant-loop input first given id found₀ i₀ found i = Looked (eqb id) (λ k. id_at input (router_place first k)) given i found
+abbrev invariant-loop-i : tie.invariant-loop-i
+invariant-loop-i input first given id found₀ i₀ found i = Looked (eqb id) (λ k. id_at input (router_place first k)) given i found
 
-abbrev decreases-loop : tie.decreases-loop
-decreases-loop input first given id found₀ i₀ found i = given - i
+abbrev decreases-loop-i : tie.decreases-loop-i
+decreases-loop-i input first given id found₀ i₀ found i = given - i
 
 pub twin_spec : {M : Type 1} → statement M
 twin_spec =
     tie.close
     (tie.spec
-    invariant-loop
-    decreases-loop
+    invariant-loop-i
+    decreases-loop-i
     (λ c. looked)
-    (λ c. let l = looked_more c.before.loop.invariant c.loop-test.true in omega arith)
-    (λ c. let l = looked_more c.before.loop.invariant c.loop-test.true in omega arith)
-    (λ c κs. let l = looked_more c.before.loop.invariant c.loop-test.true in omega arith)
-    (λ c. let turn : tie.In-loop invariant-loop decreases-loop = search rules in let l = looked_more turn.before.loop.inv turn.loop-test.taken in omega arith)
-    (λ c. let turn : tie.In-loop invariant-loop decreases-loop = search rules in let l = looked_more turn.before.loop.inv turn.loop-test.taken in omega arith)
+    (λ c. let l = looked_more c.before.loop-i.invariant c.loop-i-test.true in omega arith)
+    (λ c. let l = looked_more c.before.loop-i.invariant c.loop-i-test.true in omega arith)
+    (λ c κs. let l = looked_more c.before.loop-i.invariant c.loop-i-test.true in omega arith)
+    (λ c. let turn : tie.In-loop-i invariant-loop-i decreases-loop-i = search rules in let l = looked_more turn.before.loop-i.invariant turn.loop-i-test.true in omega arith)
+    (λ c. let turn : tie.In-loop-i invariant-loop-i decreases-loop-i = search rules in let l = looked_more turn.before.loop-i.invariant turn.loop-i-test.true in omega arith)
     (λ c.
-    let turn : tie.In-loop invariant-loop decreases-loop = search rules in
-    let s : tie.Start invariant-loop decreases-loop = search rules in
-    looked_on turn.before.loop.inv turn.loop-test.taken (ap (eqb s.args.id) c.id_at_lem.ensures))
-    (λ c. looked_over c.before.loop.invariant c.loop-test.false))
+    let turn : tie.In-loop-i invariant-loop-i decreases-loop-i = search rules in
+    let s : tie.Start invariant-loop-i decreases-loop-i = search rules in
+    looked_on turn.before.loop-i.invariant turn.loop-i-test.true (ap (eqb s.args.id) c.id_at.ensures))
+    (λ c. looked_over c.before.loop-i.invariant c.loop-i-test.false))

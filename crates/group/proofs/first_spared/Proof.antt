@@ -12,44 +12,44 @@ use Rattle.model.specs.ListLaws.{Leads, leads, leads_off, leads_hit, leads_end, 
 use Rattle.group.proofs.first_spared.Statement.{statement}
 use Rattle.group.proofs.first_spared.Tie as tie
 
-abbrev invariant-loop : tie.invariant-loop
-invariant-loop group med low q₀ q-end q = Leads (λ z. not (ltb (column low (column group z)) (column med z))) (span 0 (length group)) q
+abbrev invariant-loop-q : tie.invariant-loop-q
+invariant-loop-q group med low q₀ q-end q = Leads (λ z. not (ltb (column low (column group z)) (column med z))) (span 0 (length group)) q
 
-abbrev decreases-loop : tie.decreases-loop
-decreases-loop group med low q₀ q-end q = length group - q
+abbrev decreases-loop-q : tie.decreases-loop-q
+decreases-loop-q group med low q₀ q-end q = length group - q
 
-abbrev start_of : tie.In-loop invariant-loop decreases-loop → tie.Start invariant-loop decreases-loop
+abbrev start_of : tie.In-loop-q invariant-loop-q decreases-loop-q → tie.Start invariant-loop-q decreases-loop-q
 start_of c = search rules
 
-spared-requires : tie.Need-spared-requires invariant-loop decreases-loop
+spared-requires : tie.Need-spared-requires invariant-loop-q decreases-loop-q
 spared-requires c κs =
-    let turn : tie.In-loop invariant-loop decreases-loop = search rules in
-    let l = turn.loop-test.taken in
-    (l, (start_of turn).pre.1, (start_of turn).pre.2 _ l)
+    let turn : tie.In-loop-q invariant-loop-q decreases-loop-q = search rules in
+    let l = turn.loop-q-test.true in
+    (l, (start_of turn).requires.1, (start_of turn).requires.2 _ l)
 
-returns : tie.Need-returns invariant-loop decreases-loop
+returns : tie.Need-returns-then-spared invariant-loop-q decreases-loop-q
 returns c =
-    let turn : tie.In-loop invariant-loop decreases-loop = search rules in
-    let asked : tie.After-spared invariant-loop decreases-loop = search rules in
-    let branch : tie.Then1 invariant-loop decreases-loop = search rules in
+    let turn : tie.In-loop-q invariant-loop-q decreases-loop-q = search rules in
+    let asked : tie.After-spared invariant-loop-q decreases-loop-q = search rules in
+    let branch : tie.Then-spared invariant-loop-q decreases-loop-q = search rules in
     let n = length (start_of turn).args.group.now in
-    let l = turn.loop-test.taken in
-    leads_hit turn.before.loop.inv (omega (arith, l, length_span 0 n)) (rw (span_at n turn.before.loop.q l) asked.spared.ensures) branch.if1.taken
+    let l = turn.loop-q-test.true in
+    leads_hit turn.before.loop-q.invariant (omega (arith, l, length_span 0 n)) (rw (span_at n turn.before.loop-q.q l) asked.spared.ensures) branch.if-spared.true
 
-loop-again : tie.Need-loop-preserved invariant-loop decreases-loop
+loop-again : tie.Need-loop-q-preserved invariant-loop-q decreases-loop-q
 loop-again c =
-    let turn : tie.In-loop invariant-loop decreases-loop = search rules in
-    let asked : tie.After-spared invariant-loop decreases-loop = search rules in
+    let turn : tie.In-loop-q invariant-loop-q decreases-loop-q = search rules in
+    let asked : tie.After-spared invariant-loop-q decreases-loop-q = search rules in
     let n = length (start_of turn).args.group.now in
-    let l = turn.loop-test.taken in
-    leads_off turn.before.loop.inv (omega (arith, l, length_span 0 n)) (rw (span_at n turn.before.loop.q l) asked.spared.ensures) c.if1.false
+    let l = turn.loop-q-test.true in
+    leads_off turn.before.loop-q.invariant (omega (arith, l, length_span 0 n)) (rw (span_at n turn.before.loop-q.q l) asked.spared.ensures) c.if-spared.false
 
-returns-2 : tie.Need-returns-2 invariant-loop decreases-loop
+returns-2 : tie.Need-returns invariant-loop-q decreases-loop-q
 returns-2 c =
-    let start : tie.Start invariant-loop decreases-loop = search rules in
+    let start : tie.Start invariant-loop-q decreases-loop-q = search rules in
     let n = length start.args.group.now in
-    sym (length_span 0 n) ∙ leads_end c.before.loop.invariant (omega (arith, c.loop-test.false, length_span 0 n))
+    sym (length_span 0 n) ∙ leads_end c.before.loop-q.invariant (omega (arith, c.loop-q-test.false, length_span 0 n))
 
 pub first_spared_spec : {M : Type 1} → statement M
 first_spared_spec =
-    tie.close (tie.spec invariant-loop decreases-loop (λ c. search leads) spared-requires (λ c. search rules) returns (λ c. search rules) (λ c. search rules) loop-again (λ c. search rules) returns-2)
+    tie.close (tie.spec invariant-loop-q decreases-loop-q (λ c. search leads) spared-requires (λ c. search rules) returns (λ c. search rules) (λ c. search rules) loop-again (λ c. search rules) returns-2)

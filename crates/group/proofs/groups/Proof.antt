@@ -10,19 +10,19 @@ use Rattle.model.specs.LoopLaws.{Stored, stored, stored_next, stored_end}
 use Rattle.group.proofs.groups.Statement.{statement}
 use Rattle.group.proofs.groups.Tie as tie
 
-abbrev invariant-loop : tie.invariant-loop
-invariant-loop key rows group₀ k₀ k-end group k = Stored 0 (group_by (λ p. column key (column rows p))) (length rows) group₀ k group
+abbrev invariant-loop-k : tie.invariant-loop-k
+invariant-loop-k key rows group₀ k₀ k-end group k = Stored 0 (group_by (λ p. column key (column rows p))) (length rows) group₀ k group
 
-abbrev decreases-loop : tie.decreases-loop
-decreases-loop key rows group₀ k₀ k-end group k = length rows - k
+abbrev decreases-loop-k : tie.decreases-loop-k
+decreases-loop-k key rows group₀ k₀ k-end group k = length rows - k
 
-cast : tie.Need-overflow-cast-group invariant-loop decreases-loop
+cast : tie.Need-overflow_cast-group invariant-loop-k decreases-loop-k
 cast c =
-    let start : tie.Start invariant-loop decreases-loop = search rules in
-    let at : tie.At-loop invariant-loop decreases-loop = search rules in
-    let found : tie.After-group-of invariant-loop decreases-loop = search rules in
-    omega (arith, found.Group-of.ensures, group_le (λ p. column start.args.key.now (column start.args.rows.now p)) at.loop.k)
+    let start : tie.Start invariant-loop-k decreases-loop-k = search rules in
+    let at : tie.At-loop-k invariant-loop-k decreases-loop-k = search rules in
+    let found : tie.After-group_of invariant-loop-k decreases-loop-k = search rules in
+    omega (arith, found.group_of.ensures, group_le (λ p. column start.args.key.now (column start.args.rows.now p)) at.loop-k.k)
 
 pub groups_spec : {M : Type 1} → statement M
 groups_spec =
-    tie.close (tie.spec invariant-loop decreases-loop (λ c. search (stored, rules)) (λ c κs. search rules) cast (λ c. search rules) (λ c. search rules) (λ c. search rules) (λ c. search rules) (λ c. search stored_next) (λ c. search rules) (λ c. search stored_end))
+    tie.close (tie.spec invariant-loop-k decreases-loop-k (λ c. search (stored, rules)) (λ c κs. search rules) cast (λ c. search rules) (λ c. search rules) (λ c. search rules) (λ c. search rules) (λ c. search stored_next) (λ c. search rules) (λ c. search stored_end))

@@ -17,12 +17,12 @@ put_address_spec =
     (λ c κs. search rules)
     (λ c. search rules)
     (λ c.
-    let a : tie.After-put-number = search rules in
-    let b : tie.After-put-number2 = search rules in
-    let d : tie.After-put-number3 = search rules in
-    let e : tie.After-put-number4 = search rules in
-    let p = a.put-number.ensures in
-    let q = b.put-number2.ensures in
-    let s = d.put-number3.ensures in
-    let t = e.put-number4.ensures in
+    let a : tie.After-put_number-first = search rules in
+    let b : tie.After-put_number-second = search rules in
+    let d : tie.After-put_number-third = search rules in
+    let e : tie.After-put_number = search rules in
+    let p = a.put_number-first.ensures in
+    let q = b.put_number-second.ensures in
+    let s = d.put_number-third.ensures in
+    let t = e.put_number.ensures in
     (puts_then (puts_then (puts_then p.0 q.0) s.0) t.0, omega (arith, p.1, q.1, s.1, t.1))))

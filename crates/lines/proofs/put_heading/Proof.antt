@@ -15,10 +15,10 @@ put_heading_spec =
     (λ c κs. search rules)
     (λ c. search rules)
     (λ c.
-    let a : tie.After-put-number = search rules in
-    let b : tie.After-put-number2 = search rules in
-    let d : tie.After-put-text = search rules in
-    let p = a.put-number.ensures in
-    let q = b.put-number2.ensures in
-    let t = d.put-text.ensures in
+    let a : tie.After-put_number-first = search rules in
+    let b : tie.After-put_number-second = search rules in
+    let d : tie.After-put_text = search rules in
+    let p = a.put_number-first.ensures in
+    let q = b.put_number-second.ensures in
+    let t = d.put_text.ensures in
     (puts_then (puts_then p.0 q.0) t, omega (arith, p.1, q.1, t.place))))

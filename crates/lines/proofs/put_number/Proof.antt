@@ -12,11 +12,11 @@ put_number_spec =
     tie.close (tie.spec (λ c κs. search rules)
     (λ c κs.
     let start : tie.Start = search rules in
-    omega (arith, ten start.args.n start.fits.n.fits))
+    omega (arith, ten start.args.n start.ranges.n.fits))
     (λ c. search rules)
     (λ c.
     let start : tie.Start = search rules in
-    let first : tie.After-put-text = search rules in
-    let second : tie.After-put-decimal = search rules in
-    let whole = puts_then first.put-text.ensures second.put-decimal.ensures in
-    (whole, omega (arith, whole.place, ten start.args.n start.fits.n.fits, length-append start.args.word.now (decimal start.args.n)))))
+    let first : tie.After-put_text-next = search rules in
+    let second : tie.After-put_decimal = search rules in
+    let whole = puts_then first.put_text-next.ensures second.put_decimal.ensures in
+    (whole, omega (arith, whole.place, ten start.args.n start.ranges.n.fits, length-append start.args.word.now (decimal start.args.n)))))

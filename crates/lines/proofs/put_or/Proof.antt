@@ -12,13 +12,13 @@ put_or_spec =
     (λ c κs. search rules)
     (λ c. search rules)
     (λ c.
-    let a : tie.After-put-text = search rules in
-    let b : tie.After-put-entry = search rules in
-    let z : tie.Then1 = search rules in
-    let p = a.put-text.ensures in
-    let q = b.put-entry.ensures in
-    (rw z.if1.taken (puts_then p q.0), omega (arith, p.place, q.1)))
+    let a : tie.After-put_text-word = search rules in
+    let b : tie.After-put_entry = search rules in
+    let z : tie.Then-unsettled = search rules in
+    let p = a.put_text-word.ensures in
+    let q = b.put_entry.ensures in
+    (rw z.if-unsettled.true (puts_then p q.0), omega (arith, p.place, q.1)))
     (λ c.
     let start : tie.Start = search rules in
-    let z : tie.Else1 = search rules in
-    (rw z.if1.left (puts_none start.args.out.now start.args.at), omega arith)))
+    let z : tie.Else-unsettled = search rules in
+    (rw z.if-unsettled.false (puts_none start.args.out.now start.args.at), omega arith)))

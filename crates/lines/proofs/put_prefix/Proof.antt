@@ -17,14 +17,14 @@ put_prefix_spec =
     (λ c κs. search rules)
     (λ c. search rules)
     (λ c.
-    let a : tie.After-put-text = search rules in
-    let b : tie.After-put-address = search rules in
-    let d : tie.After-put-number = search rules in
-    let e : tie.After-put-state = search rules in
-    let f : tie.After-put-text2 = search rules in
-    let p = a.put-text.ensures in
-    let q = b.put-address.ensures in
-    let s = d.put-number.ensures in
-    let t = e.put-state.ensures in
-    let u = f.put-text2.ensures in
+    let a : tie.After-put_text-word = search rules in
+    let b : tie.After-put_address-dots = search rules in
+    let d : tie.After-put_number-slash = search rules in
+    let e : tie.After-put_state-said = search rules in
+    let f : tie.After-put_text = search rules in
+    let p = a.put_text-word.ensures in
+    let q = b.put_address-dots.ensures in
+    let s = d.put_number-slash.ensures in
+    let t = e.put_state-said.ensures in
+    let u = f.put_text.ensures in
     (puts_then (puts_then (puts_then (puts_then p q.0) s.0) t.0) u, omega (arith, p.place, q.1, s.1, t.1, u.place))))

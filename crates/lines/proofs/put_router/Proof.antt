@@ -15,12 +15,12 @@ put_router_spec =
     (λ c κs. search rules)
     (λ c. search rules)
     (λ c.
-    let a : tie.After-put-number = search rules in
-    let b : tie.After-put-entry = search rules in
-    let d : tie.After-put-or = search rules in
-    let e : tie.After-put-text = search rules in
-    let p = a.put-number.ensures in
-    let q = b.put-entry.ensures in
-    let s = d.put-or.ensures in
-    let t = e.put-text.ensures in
+    let a : tie.After-put_number-index = search rules in
+    let b : tie.After-put_entry-first = search rules in
+    let d : tie.After-put_or-both = search rules in
+    let e : tie.After-put_text = search rules in
+    let p = a.put_number-index.ensures in
+    let q = b.put_entry-first.ensures in
+    let s = d.put_or-both.ensures in
+    let t = e.put_text.ensures in
     (puts_then (puts_then (puts_then p.0 q.0) s.0) t, omega (arith, p.1, q.1, s.1, t.place))))

@@ -11,13 +11,13 @@ put_state_spec =
     (λ c κs. search rules)
     (λ c. search rules)
     (λ c.
-    let a : tie.After-put-text = search rules in
-    let z : tie.Then1 = search rules in
-    (rw (eq-eqb _ 0 z.if1.taken) a.put-text.ensures, omega (arith, a.put-text.ensures.place)))
+    let a : tie.After-put_text = search rules in
+    let z : tie.Then-differing-eq0 = search rules in
+    (rw (eq-eqb _ 0 z.if-differing-eq0.true) a.put_text.ensures, omega (arith, a.put_text.ensures.place)))
     (λ c. search rules)
     (λ c κs. search rules)
     (λ c. search rules)
     (λ c.
-    let a : tie.After-put-number = search rules in
-    let z : tie.Else1 = search rules in
-    (rw (ne_eqb _ 0 z.if1.left) a.put-number.ensures.0, omega (arith, a.put-number.ensures.1))))
+    let a : tie.After-put_number = search rules in
+    let z : tie.Else-differing-eq0 = search rules in
+    (rw (ne_eqb _ 0 z.if-differing-eq0.false) a.put_number.ensures.0, omega (arith, a.put_number.ensures.1))))

@@ -13,90 +13,90 @@ use Rattle.model.specs.RoundLaws.{Turn, turn, turn_next, turn_room, slice_long, 
 use Rattle.settle.proofs.advance.Statement.{statement}
 use Rattle.settle.proofs.advance.Tie as tie
 
-abbrev invariant-loop : tie.invariant-loop
-invariant-loop group med low ends state₀ from₀ moved₀ r₀ r-end state from moved r =
+abbrev invariant-loop-r : tie.invariant-loop-r
+invariant-loop-r group med low ends state₀ from₀ moved₀ r₀ r-end state from moved r =
     Turn (length group) ends r from
     × Moved (λ r. first_place (λ q. not (ltb (column low (column group q)) (column med q))) (own_places ends r)) (length ends) state₀ r state moved
 
-abbrev decreases-loop : tie.decreases-loop
-decreases-loop group med low ends state₀ from₀ moved₀ r₀ r-end state from moved r = length ends - r
+abbrev decreases-loop-r : tie.decreases-loop-r
+decreases-loop-r group med low ends state₀ from₀ moved₀ r₀ r-end state from moved r = length ends - r
 
-abbrev start_of : tie.In-loop invariant-loop decreases-loop → tie.Start invariant-loop decreases-loop
+abbrev start_of : tie.In-loop-r invariant-loop-r decreases-loop-r → tie.Start invariant-loop-r decreases-loop-r
 start_of c = search rules
 
 -- the places of the router in turn are in the columns
-room : (c : tie.In-loop invariant-loop decreases-loop) → c.before.loop.from + column (start_of c).args.ends.now c.before.loop.r ≤ length (start_of c).args.group.now
-room c = turn_room c.before.loop.invariant.0 c.loop-test.true
+room : (c : tie.In-loop-r invariant-loop-r decreases-loop-r) → c.before.loop-r.from + column (start_of c).args.ends.now c.before.loop-r.r ≤ length (start_of c).args.group.now
+room c = turn_room c.before.loop-r.invariant.0 c.loop-r-test.true
 
 -- so the first of them that is spared is found
-found : (c : tie.After-first-spared invariant-loop decreases-loop) → let turn : tie.In-loop invariant-loop decreases-loop = search rules in let a = (start_of turn).args in
-    c.first-spared.result ≡ first_place (λ q. not (ltb (column a.low.now (column a.group.now q)) (column a.med.now q))) (own_places a.ends.now turn.before.loop.r)
+found : (c : tie.After-first_spared-place invariant-loop-r decreases-loop-r) → let turn : tie.In-loop-r invariant-loop-r decreases-loop-r = search rules in let a = (start_of turn).args in
+    c.first_spared-place.result ≡ first_place (λ q. not (ltb (column a.low.now (column a.group.now q)) (column a.med.now q))) (own_places a.ends.now turn.before.loop-r.r)
 found c =
-    let turn : tie.In-loop invariant-loop decreases-loop = search rules in
+    let turn : tie.In-loop-r invariant-loop-r decreases-loop-r = search rules in
     let a = (start_of turn).args in
-    c.first-spared.ensures ∙ slice_first a.group.now a.med.now a.low.now turn.before.loop.inv.0 (room turn)
+    c.first_spared-place.ensures ∙ slice_first a.group.now a.med.now a.low.now turn.before.loop-r.invariant.0 (room turn)
 
-cast-to : tie.Need-overflow-cast-to invariant-loop decreases-loop
+cast-to : tie.Need-overflow_cast-to invariant-loop-r decreases-loop-r
 cast-to c =
-    let turn : tie.In-loop invariant-loop decreases-loop = search rules in
-    record { fits = omega (arith, room turn, (start_of turn).pre.0.rows) }
+    let turn : tie.In-loop-r invariant-loop-r decreases-loop-r = search rules in
+    record { fits = omega (arith, room turn, (start_of turn).requires.0.rows) }
 
-add-to : tie.Need-overflow-add-to invariant-loop decreases-loop
+add-to : tie.Need-overflow_add-to invariant-loop-r decreases-loop-r
 add-to c =
-    let turn : tie.In-loop invariant-loop decreases-loop = search rules in
-    record { fits = omega (arith, room turn, (start_of turn).pre.0.rows) }
+    let turn : tie.In-loop-r invariant-loop-r decreases-loop-r = search rules in
+    record { fits = omega (arith, room turn, (start_of turn).requires.0.rows) }
 
-mul-first-spared : tie.Need-overflow-mul-first-spared invariant-loop decreases-loop
+mul-first-spared : tie.Need-offset_bounds-group-from invariant-loop-r decreases-loop-r
 mul-first-spared c =
-    let turn : tie.In-loop invariant-loop decreases-loop = search rules in
-    record { fits = omega (arith, room turn, (start_of turn).pre.0.rows) }
+    let turn : tie.In-loop-r invariant-loop-r decreases-loop-r = search rules in
+    record { fits = omega (arith, room turn, (start_of turn).requires.0.rows) }
 
-part-first-spared-end : tie.Need-slice-bounds-first-spared-end invariant-loop decreases-loop
+part-first-spared-end : tie.Need-slice-bounds-first-spared-end invariant-loop-r decreases-loop-r
 part-first-spared-end c =
-    let turn : tie.In-loop invariant-loop decreases-loop = search rules in
+    let turn : tie.In-loop-r invariant-loop-r decreases-loop-r = search rules in
     room turn
 
-mul-first-spared-2 : tie.Need-overflow-mul-first-spared-2 invariant-loop decreases-loop
+mul-first-spared-2 : tie.Need-offset_bounds-med-from invariant-loop-r decreases-loop-r
 mul-first-spared-2 c =
-    let turn : tie.In-loop invariant-loop decreases-loop = search rules in
-    record { fits = omega (arith, room turn, (start_of turn).pre.0.rows) }
+    let turn : tie.In-loop-r invariant-loop-r decreases-loop-r = search rules in
+    record { fits = omega (arith, room turn, (start_of turn).requires.0.rows) }
 
-part-first-spared-end-2 : tie.Need-slice-bounds-first-spared-end-2 invariant-loop decreases-loop
+part-first-spared-end-2 : tie.Need-slice-bounds-first-spared-end-2 invariant-loop-r decreases-loop-r
 part-first-spared-end-2 c =
-    let turn : tie.In-loop invariant-loop decreases-loop = search rules in
-    omega (arith, room turn, (start_of turn).pre.0.med_long)
+    let turn : tie.In-loop-r invariant-loop-r decreases-loop-r = search rules in
+    omega (arith, room turn, (start_of turn).requires.0.med_long)
 
-first-spared-requires : tie.Need-first-spared-requires invariant-loop decreases-loop
+first-spared-requires : tie.Need-first_spared-place-requires invariant-loop-r decreases-loop-r
 first-spared-requires c κs =
-    let turn : tie.In-loop invariant-loop decreases-loop = search rules in
+    let turn : tie.In-loop-r invariant-loop-r decreases-loop-r = search rules in
     let start = start_of turn in
     let a = start.args in
-    let ready = start.pre.0 in
-    let from = turn.before.loop.from in
-    let n = column a.ends.now turn.before.loop.r in
+    let ready = start.requires.0 in
+    let from = turn.before.loop-r.from in
+    let n = column a.ends.now turn.before.loop-r.r in
     let long = slice_long from n a.group.now (room turn) in (
       omega (arith, long, room turn, ready.rows),
       slice_long from n a.med.now (omega (arith, room turn, ready.med_long)) ∙ sym long,
-      slice_within from n (length a.low.now) a.group.now (room turn) (λ q l. omega (arith, ready.grouped q l, start.pre.1.1)),
+      slice_within from n (length a.low.now) a.group.now (room turn) (λ q l. omega (arith, ready.grouped q l, start.requires.1.1)),
     )
 
-loop-again : tie.Need-loop-preserved invariant-loop decreases-loop
+loop-again : tie.Need-loop-r-preserved-then-place-state invariant-loop-r decreases-loop-r
 loop-again c =
-    let turn : tie.In-loop invariant-loop decreases-loop = search rules in
-    let asked : tie.After-first-spared invariant-loop decreases-loop = search rules in
-    let branch : tie.Then1 invariant-loop decreases-loop = search rules in
-    let l = turn.loop-test.taken in
-    (turn_next turn.before.loop.inv.0 l, moved_none turn.before.loop.inv.1 l (found asked) branch.if1.taken)
+    let turn : tie.In-loop-r invariant-loop-r decreases-loop-r = search rules in
+    let asked : tie.After-first_spared-place invariant-loop-r decreases-loop-r = search rules in
+    let branch : tie.Then-place-state invariant-loop-r decreases-loop-r = search rules in
+    let l = turn.loop-r-test.true in
+    (turn_next turn.before.loop-r.invariant.0 l, moved_none turn.before.loop-r.invariant.1 l (found asked) branch.if-place-state.true)
 
-loop-again-2 : tie.Need-loop-preserved-2 invariant-loop decreases-loop
+loop-again-2 : tie.Need-loop-r-preserved invariant-loop-r decreases-loop-r
 loop-again-2 c =
-    let turn : tie.In-loop invariant-loop decreases-loop = search rules in
-    let asked : tie.After-first-spared invariant-loop decreases-loop = search rules in
-    let l = turn.loop-test.taken in
-    (turn_next turn.before.loop.inv.0 l, moved_one turn.before.loop.inv.1 l (found asked))
+    let turn : tie.In-loop-r invariant-loop-r decreases-loop-r = search rules in
+    let asked : tie.After-first_spared-place invariant-loop-r decreases-loop-r = search rules in
+    let l = turn.loop-r-test.true in
+    (turn_next turn.before.loop-r.invariant.0 l, moved_one turn.before.loop-r.invariant.1 l (found asked))
 
 pub advance_spec : {M : Type 1} → statement M
 advance_spec =
-    tie.close (tie.spec invariant-loop decreases-loop (λ c. search (turn, moved, rules)) (λ c. search rules) (λ c. search rules) cast-to add-to
+    tie.close (tie.spec invariant-loop-r decreases-loop-r (λ c. search (turn, moved, rules)) (λ c. search rules) (λ c. search rules) cast-to add-to
     mul-first-spared (λ c. search rules) (λ c. search rules) part-first-spared-end mul-first-spared-2 (λ c. search rules) (λ c. search rules) part-first-spared-end-2
-    first-spared-requires (λ c. search rules) (λ c. search rules) (λ c. search rules) (λ c. search rules) loop-again (λ c. search rules) (λ c. search rules) (λ c. search rules) (λ c. search rules) loop-again-2 (λ c. search rules) (λ c. moved_end c.before.loop.invariant.1 c.loop-test.false))
+    first-spared-requires (λ c. search rules) (λ c. search rules) (λ c. search rules) (λ c. search rules) loop-again (λ c. search rules) (λ c. search rules) (λ c. search rules) (λ c. search rules) loop-again-2 (λ c. search rules) (λ c. moved_end c.before.loop-r.invariant.1 c.loop-r-test.false))

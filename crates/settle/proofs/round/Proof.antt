@@ -17,17 +17,17 @@ use Rattle.settle.proofs.round.Tie as tie
 returns : tie.Need-returns
 returns c =
     let start : tie.Start = search rules in
-    let known : tie.After-shared-slice-known2 = search rules in
-    let made : tie.After-past = search rules in
+    let known : tie.After-shared_slice_known-2-1 = search rules in
+    let made : tie.After-past-low = search rules in
     let passed : tie.After-pass = search rules in
     let done : tie.After-advance = search rules in
     let a = start.args in
     let seen = passed_rows (own_places a.ends.now) a.state.now (length a.ends.now) in (
       done.advance.ensures.0
-          ∙ round_low start.pre.0 a.state.now passed.pass.last.1.1.1.1.0 (λ q. omega (arith, known.shared-slice-known2.given q))
+          ∙ round_low start.requires.0 a.state.now passed.pass.new.low (λ q. omega (arith, known.shared_slice_known-2-1.given q))
           (λ k l. passed.pass.ensures k
           ∙ ap (λ (past : ℕ). least_or past (column a.med.now) (keep (λ q. eqb (column a.group.now q) k) seen))
-          (ap (λ (low : List ℕ). column low k) made.past.ensures ∙ get_or-replicate most_rows k past_keys 0 l)),
+          (ap (λ (low : List ℕ). column low k) made.past-low.ensures ∙ get_or-replicate most_rows k past_keys 0 l)),
       done.advance.ensures.1,
     )
 

@@ -12,8 +12,8 @@ pub prefix_bad_spec : {M : Type 1} → statement M
 prefix_bad_spec =
     tie.close
     (tie.spec
-    (λ c. simp (lt-ltb _ _ c.if1.true))
+    (λ c. simp (lt-ltb _ _ c.if-bits-gt-MOST_BITS.true))
     (λ c. search rules)
     (λ c. search rules)
     (λ c. rw (shifted (32 - c.before.args.bits) (omega arith)) (pow_pos (32 - c.before.args.bits)))
-    (λ c. rw (shifted (32 - c.before.args.bits) (omega arith)) (simp (le-ltb _ _ c.if1.false))))
+    (λ c. rw (shifted (32 - c.before.args.bits) (omega arith)) (simp (le-ltb _ _ c.if-bits-gt-MOST_BITS.false))))

@@ -19,19 +19,19 @@ lent s =
     s.args.mark.now s.args.med.now s.args.nid.now s.args.peer.now)
 
 -- the entry, which lies far back
-abbrev start_of : tie.Else1 → tie.Start
+abbrev start_of : tie.Else-lacks_room → tie.Start
 start_of c = search rules
 
 -- no table is shorter than its limit
-enough : (c : tie.Else1) → T (none (short (lent (start_of c))))
-enough c = none_any (short (lent (start_of c))) (sym c.before.lacks-room.ensures ∙ c.if1.false)
+enough : (c : tie.Else-lacks_room) → T (none (short (lent (start_of c))))
+enough c = none_any (short (lent (start_of c))) (sym c.before.lacks_room.ensures ∙ c.if-lacks_room.false)
 
 pub examine_spec : {M : Type 1} → statement M
 examine_spec =
     tie.close
     (tie.spec
     (λ c κs. search rules)
-    (λ c. room (subst T (sym (sym c.before.lacks-room.ensures ∙ c.if1.true)) tt))
+    (λ c. room (subst T (sym (sym c.before.lacks_room.ensures ∙ c.if-lacks_room.true)) tt))
     (λ c κs. has_room (lent (start_of c)) (enough c))
-    (λ c. unheld (enough c.before.before) (c.before.judge.ensures.no (not-true _ c.if2.true)))
-    (λ c. held (enough c.before.before) (c.before.judge.ensures.yes (not-false _ c.if2.false))))
+    (λ c. unheld (enough c.before.before) (c.before.judge.ensures.no (not-true _ c.if-not-judge.true)))
+    (λ c. held (enough c.before.before) (c.before.judge.ensures.yes (not-false _ c.if-not-judge.false))))

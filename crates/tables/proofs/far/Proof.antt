@@ -8,18 +8,18 @@ use Rattle.model.specs.LoopLaws.{Looked, looked, looked_next, looked_end}
 use Rattle.tables.proofs.far.Statement.{statement}
 use Rattle.tables.proofs.far.Tie as tie
 
-abbrev invariant-loop : tie.invariant-loop
-invariant-loop n distances first found₀ i₀ found i = Looked (ltb farthest) (λ k. column distances (first + k)) n i found
+abbrev invariant-loop-i : tie.invariant-loop-i
+invariant-loop-i n distances first found₀ i₀ found i = Looked (ltb farthest) (λ k. column distances (first + k)) n i found
 
-abbrev decreases-loop : tie.decreases-loop
-decreases-loop n distances first found₀ i₀ found i = n - i
+abbrev decreases-loop-i : tie.decreases-loop-i
+decreases-loop-i n distances first found₀ i₀ found i = n - i
 
 pub far_spec : {M : Type 1} → statement M
 far_spec =
     tie.close
     (tie.spec
-    invariant-loop
-    decreases-loop
+    invariant-loop-i
+    decreases-loop-i
     (λ c. looked)
     (λ c. search rules)
     (λ c. search rules)
@@ -27,7 +27,7 @@ far_spec =
     (λ c κs. search rules)
     (λ c. search rules)
     (λ c. search rules)
-    (λ c. let turn : tie.In-loop invariant-loop decreases-loop = search rules in
-    let tested : tie.After-distance-bad invariant-loop decreases-loop = search rules in
-    looked_next turn.before.loop.inv turn.loop-test.taken tested.distance-bad.ensures)
-    (λ c. looked_end c.before.loop.invariant c.loop-test.false))
+    (λ c. let turn : tie.In-loop-i invariant-loop-i decreases-loop-i = search rules in
+    let tested : tie.After-distance_bad-found invariant-loop-i decreases-loop-i = search rules in
+    looked_next turn.before.loop-i.invariant turn.loop-i-test.true tested.distance_bad-found.ensures)
+    (λ c. looked_end c.before.loop-i.invariant c.loop-i-test.false))

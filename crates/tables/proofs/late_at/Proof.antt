@@ -8,7 +8,7 @@ pub late_at_spec : {M : Type 1} → statement M
 late_at_spec =
     tie.close
     (tie.spec
-    (λ c. rw (eq-eqb _ _ c.if1.true))
+    (λ c. rw (eq-eqb _ _ c.if-first-row.true))
     (λ c. search rules)
     (λ c. search rules)
     (λ c. search rules)
@@ -20,4 +20,4 @@ late_at_spec =
     (λ c. search rules)
     (λ c. search rules)
     (λ c κs. search rules)
-    (λ c. let past : tie.Else1 = search rules in rw (ne_eqb _ _ past.if1.left) c.late.ensures))
+    (λ c. let past : tie.Else-first-row = search rules in rw (ne_eqb _ _ past.if-first-row.false) c.late.ensures))

@@ -13,20 +13,20 @@ lent s =
     (columns s.args.router.now s.args.asn.now s.args.preference.now s.args.path.now s.args.origin.now
     s.args.mark.now s.args.med.now s.args.nid.now s.args.peer.now)
 
-returns : tie.Need-returns
+returns : tie.Need-returns-then-count-prefix_bad
 returns c =
     let start : tie.Start = search rules in
     let a = start.args in
-    decides_not (prefix_bad a.routers (lent start) a.p a.at start.pre.3 c.before.before.prefix_bad.ensures c.before.late-at.ensures c.if1.true)
+    decides_not (prefix_bad a.routers (lent start) a.p a.at start.requires.3 c.before.before.prefix_bad.ensures c.before.late_at.ensures c.if-count-prefix_bad.true)
 
-returns-2 : tie.Need-returns-2
+returns-2 : tie.Need-returns
 returns-2 c =
     let start : tie.Start = search rules in
-    let known : tie.After-shared-slice-known14 = search rules in
+    let known : tie.After-shared_slice_known-14-1 = search rules in
     let a = start.args in
     let past = c.before in
-    prefix_good a.routers (lent start) a.p a.at start.pre.3 past.before.before.prefix_bad.ensures past.before.late-at.ensures
-    (omega (arith, known.shared-slice-known14.given a.p)) past.if1.false c.routes_good.ensures
+    prefix_good a.routers (lent start) a.p a.at start.requires.3 past.before.before.prefix_bad.ensures past.before.late_at.ensures
+    (omega (arith, known.shared_slice_known-14-1.given a.p)) past.if-count-prefix_bad.false c.routes_good.ensures
 
 pub prefix_good_spec : {M : Type 1} → statement M
 prefix_good_spec =

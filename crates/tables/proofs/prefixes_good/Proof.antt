@@ -9,50 +9,50 @@ use Rattle.tables.specs.JudgeLaws.{few_routers, Counting, counting, counting_nex
 use Rattle.tables.proofs.prefixes_good.Statement.{statement}
 use Rattle.tables.proofs.prefixes_good.Tie as tie
 
-abbrev invariant-loop : tie.invariant-loop
-invariant-loop counts address bits routes router asn preference path origin mark med nid peer at₀ p₀ at p =
+abbrev invariant-loop-p : tie.invariant-loop-p
+invariant-loop-p counts address bits routes router asn preference path origin mark med nid peer at₀ p₀ at p =
     Counting counts (prefix_tables address bits routes (columns router asn preference path origin mark med nid peer)) p at
 
-abbrev decreases-loop : tie.decreases-loop
-decreases-loop counts address bits routes router asn preference path origin mark med nid peer at₀ p₀ at p = counts.prefixes - p
+abbrev decreases-loop-p : tie.decreases-loop-p
+decreases-loop-p counts address bits routes router asn preference path origin mark med nid peer at₀ p₀ at p = counts.prefixes - p
 
 pub prefixes_good_spec : {M : Type 1} → statement M
 prefixes_good_spec =
     tie.close
     (tie.spec
-    invariant-loop
-    decreases-loop
+    invariant-loop-p
+    decreases-loop-p
     (λ c. counting)
     (λ c. search rules)
     (λ c. search rules)
-    (λ c. let start : tie.Start invariant-loop decreases-loop = search rules in omega (arith, start.pre.0.prefixes, start.pre.1.routes))
-    (λ c. let at : tie.At-loop invariant-loop decreases-loop = search rules in omega (arith, c.shared-slice-known13.given at.loop.p))
+    (λ c. let start : tie.Start invariant-loop-p decreases-loop-p = search rules in omega (arith, start.requires.0.prefixes, start.requires.1.routes))
+    (λ c. let at : tie.At-loop-p invariant-loop-p decreases-loop-p = search rules in omega (arith, c.shared_slice_known-in-loop-p-1.given at.loop-p.p))
     (λ c.
-    let start : tie.Start invariant-loop decreases-loop = search rules in
-    let at : tie.At-loop invariant-loop decreases-loop = search rules in
-    omega (arith, c.shared-slice-known13.given at.loop.p, at.loop.inv.within, start.pre.0.routes))
+    let start : tie.Start invariant-loop-p decreases-loop-p = search rules in
+    let at : tie.At-loop-p invariant-loop-p decreases-loop-p = search rules in
+    omega (arith, c.shared_slice_known-in-loop-p-1.given at.loop-p.p, at.loop-p.invariant.within, start.requires.0.routes))
     (λ c. search rules)
     (λ c.
-    let at : tie.At-loop invariant-loop decreases-loop = search rules in
-    let turn : tie.Then1 invariant-loop decreases-loop = search rules in
-    counting_over at.loop.inv turn.if1.taken c.if2.true)
+    let at : tie.At-loop-p invariant-loop-p decreases-loop-p = search rules in
+    let turn : tie.In-loop-p invariant-loop-p decreases-loop-p = search rules in
+    counting_over at.loop-p.invariant turn.loop-p-test.true c.if-counts-next.true)
     (λ c κs.
-    let start : tie.Start invariant-loop decreases-loop = search rules in
-    let at : tie.At-loop invariant-loop decreases-loop = search rules in
-    let turn : tie.Then1 invariant-loop decreases-loop = search rules in
-    (few_routers start.pre.0, omega (arith, turn.if1.taken, start.pre.0.prefixes), omega (arith, c.if2.false, start.pre.0.routes), at.loop.inv.here, start.pre.1))
+    let start : tie.Start invariant-loop-p decreases-loop-p = search rules in
+    let at : tie.At-loop-p invariant-loop-p decreases-loop-p = search rules in
+    let turn : tie.In-loop-p invariant-loop-p decreases-loop-p = search rules in
+    (few_routers start.requires.0, omega (arith, turn.loop-p-test.true, start.requires.0.prefixes), omega (arith, c.if-counts-next.false, start.requires.0.routes), at.loop-p.invariant.here, start.requires.1))
     (λ c.
-    let at : tie.At-loop invariant-loop decreases-loop = search rules in
-    let turn : tie.Then1 invariant-loop decreases-loop = search rules in
-    counting_not at.loop.inv turn.if1.taken (c.before.prefix_good.ensures.no (not-true _ c.if3.true)))
+    let at : tie.At-loop-p invariant-loop-p decreases-loop-p = search rules in
+    let turn : tie.In-loop-p invariant-loop-p decreases-loop-p = search rules in
+    counting_not at.loop-p.invariant turn.loop-p-test.true (c.before.prefix_good.ensures.no (not-true _ c.if-not-prefix_good.true)))
     (λ c. search rules)
     (λ c. search rules)
     (λ c.
-    let at : tie.At-loop invariant-loop decreases-loop = search rules in
-    let turn : tie.Then1 invariant-loop decreases-loop = search rules in
-    counting_next at.loop.inv turn.if1.taken refl c.before.before.if2.false (c.before.prefix_good.ensures.yes (not-false _ c.if3.false)))
+    let at : tie.At-loop-p invariant-loop-p decreases-loop-p = search rules in
+    let turn : tie.In-loop-p invariant-loop-p decreases-loop-p = search rules in
+    counting_next at.loop-p.invariant turn.loop-p-test.true refl c.before.before.if-counts-next.false (c.before.prefix_good.ensures.yes (not-false _ c.if-not-prefix_good.false)))
     (λ c. search rules)
     (λ c.
-    let at : tie.At-loop invariant-loop decreases-loop = search rules in
-    let out : tie.Else1 invariant-loop decreases-loop = search rules in
-    counting_end at.loop.inv out.if1.left))
+    let at : tie.At-loop-p invariant-loop-p decreases-loop-p = search rules in
+    let out : tie.After-loop-p invariant-loop-p decreases-loop-p = search rules in
+    counting_end at.loop-p.invariant out.loop-p-test.false))

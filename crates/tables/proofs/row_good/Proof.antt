@@ -17,4 +17,4 @@ row_good_spec =
     (λ c.
     let start : tie.Start = search rules in
     let looked : tie.After-far = search rules in
-    row_decides start.pre.0 refl looked.far.ensures))
+    row_decides start.requires.0 refl looked.far.ensures))

@@ -6,12 +6,12 @@ use Rattle.text.specs.TextLaws.{Copied, copied, copied_next, copied_end}
 use Rattle.text.proofs.put_text.Statement.{statement}
 use Rattle.text.proofs.put_text.Tie as tie
 
-abbrev invariant-loop : tie.invariant-loop
-invariant-loop out₀ at text k₀ out k = Copied out₀ text at k out
+abbrev invariant-loop-k : tie.invariant-loop-k
+invariant-loop-k out₀ at text k₀ out k = Copied out₀ text at k out
 
-abbrev decreases-loop : tie.decreases-loop
-decreases-loop out₀ at text k₀ out k = length text - k
+abbrev decreases-loop-k : tie.decreases-loop-k
+decreases-loop-k out₀ at text k₀ out k = length text - k
 
 pub put_text_spec : {M : Type 1} → statement M
 put_text_spec =
-    tie.close (tie.spec invariant-loop decreases-loop (λ c. search copied) (λ c. search rules) (λ c. search rules) (λ c. omega arith) (λ c. search rules) (λ c. search rules) (λ c. search copied_next) (λ c. search rules) (λ c. omega arith) (λ c. search copied_end))
+    tie.close (tie.spec invariant-loop-k decreases-loop-k (λ c. search copied) (λ c. search rules) (λ c. search rules) (λ c. omega arith) (λ c. search rules) (λ c. search rules) (λ c. search copied_next) (λ c. search rules) (λ c. omega arith) (λ c. search copied_end))

@@ -9,7 +9,7 @@ returns : tie.Need-returns
 returns c =
     let start : tie.Start = search rules in
     let a = start.args in
-    rw (get_or_inside a.early.now a.r none 0 start.pre.0, get_or_inside a.late.now a.r none 0 start.pre.1)
+    rw (get_or_inside a.early.now a.r none 0 start.requires.0, get_or_inside a.late.now a.r none 0 start.requires.1)
 
 pub differ_spec : {M : Type 1} → statement M
 differ_spec = tie.close (tie.spec (λ c. search rules) (λ c. search rules) (λ c. search rules) (λ c. search rules) returns)

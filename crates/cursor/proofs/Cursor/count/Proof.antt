@@ -19,13 +19,13 @@ use Rattle.cursor.specs.Steps.{finding, body_length, opening_checks, after, took
 use Rattle.cursor.proofs.Cursor.count.Statement.{statement}
 use Rattle.cursor.proofs.Cursor.count.Tie as tie
 
-abbrev start : tie.After-enum-told → tie.Start
+abbrev start : tie.In-Clear → tie.Start
 start c = search rules
 
-clear : (c : tie.After-enum-told) → let s = start c in Clear ≡ finding (opening_checks forms s.args.input.now s.args.self.at 1 (false) (false))
-clear c = let o : tie.After-opening = search rules in sym c.enum_told.given.1 ∙ o.opening.ensures
+clear : (c : tie.In-Clear) → let s = start c in Clear ≡ finding (opening_checks forms s.args.input.now s.args.self.at 1 (false) (false))
+clear c = let o : tie.After-opening = search rules in sym c.enum_told-1.given.1 ∙ o.opening.ensures
 
-whole : (c : tie.After-enum-told) → let s = start c in s.args.self.at + body_length forms 1 < length s.args.input.now
+whole : (c : tie.In-Clear) → let s = start c in s.args.self.at + body_length forms 1 < length s.args.input.now
 whole c = let s = start c in opened forms s.args.input.now s.args.self.at 1 (false) (false) (clear c)
 
 pub count_spec : {M : Type 1} → statement M
@@ -47,21 +47,21 @@ count_spec =
     let o : tie.After-opening = search rules in
     let bs = s.args.input.now in
     let at = s.args.self.at in
-    at_opening forms bs at (only count_form) ([]) (false) (false) (count_values) (λ f. refuses f at) (λ _. took (after s.args.self count_form) (values_at count_form bs at)) refl (no_extra _) (sym c.before.f.given.1 ∙ o.opening.ensures))
+    at_opening forms bs at (only count_form) ([]) (false) (false) (count_values) (λ f. refuses f at) (λ _. took (after s.args.self count_form) (values_at count_form bs at)) refl (no_extra _) (sym c.before.f-1.given.1 ∙ o.opening.ensures))
     (λ c.
     let s : tie.Start = search rules in
     let o : tie.After-opening = search rules in
     let bs = s.args.input.now in
     let at = s.args.self.at in
-    let v : tie.After-count-faults = search rules in
-    let g : tie.After-get8 = search rules in
-    at_values forms bs at (only count_form) ([]) (false) (false) (count_values) (λ f. refuses f at) (λ _. took (after s.args.self count_form) (values_at count_form bs at)) refl (no_extra _) (clear (search rules)) (sym c.before.f2.given.1 ∙ v.count-faults.ensures ∙ ap (λ (n : ℕ). finding (count_checks n)) g.get8.ensures))
+    let v : tie.After-count_faults = search rules in
+    let g : tie.After-get8-n = search rules in
+    at_values forms bs at (only count_form) ([]) (false) (false) (count_values) (λ f. refuses f at) (λ _. took (after s.args.self count_form) (values_at count_form bs at)) refl (no_extra _) (clear (search rules)) (sym c.before.f-in-Fault-count_faults-1.given.1 ∙ v.count_faults.ensures ∙ ap (λ (n : ℕ). finding (count_checks n)) g.get8-n.ensures))
     (λ c.
     let s : tie.Start = search rules in
     let o : tie.After-opening = search rules in
     let bs = s.args.input.now in
     let at = s.args.self.at in
-    let v : tie.After-count-faults = search rules in
-    let g : tie.After-get8 = search rules in
-    let e : tie.After-enum-told2 = search rules in
-    ap₂ (λ (c : Cursor) (n : ℕ). step_said (Took c n)) c.past.ensures g.get8.ensures ∙ at_end forms bs at (only count_form) ([]) (false) (false) (count_values) (λ f. refuses f at) (λ _. took (after s.args.self count_form) (values_at count_form bs at)) refl (no_extra _) (clear (search rules)) (sym e.enum-told2.given.1 ∙ v.count-faults.ensures ∙ ap (λ (n : ℕ). finding (count_checks n)) g.get8.ensures)))
+    let v : tie.After-count_faults = search rules in
+    let g : tie.After-get8-n = search rules in
+    let e : tie.In-Clear-count_faults = search rules in
+    ap₂ (λ (c : Cursor) (n : ℕ). step_said (Took c n)) c.past.ensures g.get8-n.ensures ∙ at_end forms bs at (only count_form) ([]) (false) (false) (count_values) (λ f. refuses f at) (λ _. took (after s.args.self count_form) (values_at count_form bs at)) refl (no_extra _) (clear (search rules)) (sym e.enum_told-in-Clear-count_faults-1.given.1 ∙ v.count_faults.ensures ∙ ap (λ (n : ℕ). finding (count_checks n)) g.get8-n.ensures)))

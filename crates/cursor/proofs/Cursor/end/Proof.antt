@@ -16,13 +16,13 @@ end_spec =
     (λ c κs. search rules)
     (λ c κs. search rules)
     (λ c κs e.
-    let k : tie.After-kind-at = search rules in
-    c.body-length.ensures ∙ ap (body_of forms) (k.kind_at.ensures ∙ e))
+    let k : tie.After-kind_at = search rules in
+    c.body_length-body.ensures ∙ ap (body_of forms) (k.kind_at.ensures ∙ e))
     (λ c.
     let s : tie.Start = search rules in
-    let k : tie.After-kind-at = search rules in
-    let b : tie.After-body-length = search rules in
+    let k : tie.After-kind_at = search rules in
+    let b : tie.After-body_length-body = search rules in
     let bs = s.args.input.now in
     let at = s.args.self.at in
     c.ends.ensures
-    ∙ end_table _ s.args.self.records bs at (λ f. refuses f at) (λ _. ending bs (at + 5)) forms refl (b.body-length.ensures ∙ ap (body_of forms) k.kind_at.ensures)))
+    ∙ end_table _ s.args.self.records bs at (λ f. refuses f at) (λ _. ending bs (at + 5)) forms refl (b.body_length-body.ensures ∙ ap (body_of forms) k.kind_at.ensures)))

@@ -16,14 +16,14 @@ use Rattle.cursor.specs.StepsLaws.{opened_by, end_opening, end_number}
 use Rattle.cursor.proofs.Cursor.ends.Statement.{statement}
 use Rattle.cursor.proofs.Cursor.ends.Tie as tie
 
-abbrev start : tie.After-enum-told → tie.Start
+abbrev start : tie.In-Clear → tie.Start
 start c = search rules
 
-clear : (c : tie.After-enum-told) → let s = start c in Clear ≡ finding (opening_by s.args.body s.args.input.now s.args.self.at 6 false false)
-clear c = let o : tie.After-opens = search rules in sym c.enum_told.given.1 ∙ o.opens.ensures
+clear : (c : tie.In-Clear) → let s = start c in Clear ≡ finding (opening_by s.args.body s.args.input.now s.args.self.at 6 false false)
+clear c = let o : tie.After-opens = search rules in sym c.enum_told-1.given.1 ∙ o.opens.ensures
 
-whole : (c : tie.After-enum-told) → let s = start c in s.args.self.at + 4 < length s.args.input.now
-whole c = let s = start c in opened_by s.args.input.now s.args.self.at 6 false false s.args.body 4 s.pre (clear c)
+whole : (c : tie.In-Clear) → let s = start c in s.args.self.at + 4 < length s.args.input.now
+whole c = let s = start c in opened_by s.args.input.now s.args.self.at 6 false false s.args.body 4 s.requires (clear c)
 
 pub ends_spec : {M : Type 1} → statement M
 ends_spec =
@@ -40,36 +40,36 @@ ends_spec =
     (λ c. omega (arith, whole (search rules)))
     (λ c.
     let s : tie.Start = search rules in
-    let v : tie.After-end-faults = search rules in
+    let v : tie.After-end_faults = search rules in
     let g : tie.After-get32 = search rules in
-    let e : tie.After-enum-told2 = search rules in
+    let e : tie.In-Clear-end_faults = search rules in
     let a = s.args in
     let bs = a.input.now in
     let at = a.self.at in
     let t : ending bs (at + 5) ≡ refuses Tail (at + 5) = ap (λ (b : Bool). cond b (refuses Tail (at + 5)) (gives [])) (lt-ltb (at + 5) (length bs) (search rules)) in
-    sym t ∙ end_number a.body a.self.records bs at (λ f. refuses f at) (λ _. ending bs (at + 5)) (clear (search rules)) (sym e.enum-told2.given.1 ∙ v.end-faults.ensures ∙ ap (λ (n : ℕ). finding (end_checks a.self.records n)) g.get32.ensures))
+    sym t ∙ end_number a.body a.self.records bs at (λ f. refuses f at) (λ _. ending bs (at + 5)) (clear (search rules)) (sym e.enum_told-in-Clear-end_faults-1.given.1 ∙ v.end_faults.ensures ∙ ap (λ (n : ℕ). finding (end_checks a.self.records n)) g.get32.ensures))
     (λ c.
     let s : tie.Start = search rules in
     let o : tie.After-opens = search rules in
     let a = s.args in
     let bs = a.input.now in
     let at = a.self.at in
-    end_opening a.body a.self.records bs at (λ f. refuses f at) (λ _. ending bs (at + 5)) (sym c.before.f.given.1 ∙ o.opens.ensures))
+    end_opening a.body a.self.records bs at (λ f. refuses f at) (λ _. ending bs (at + 5)) (sym c.before.f-1.given.1 ∙ o.opens.ensures))
     (λ c.
     let s : tie.Start = search rules in
-    let v : tie.After-end-faults = search rules in
+    let v : tie.After-end_faults = search rules in
     let g : tie.After-get32 = search rules in
     let a = s.args in
     let bs = a.input.now in
     let at = a.self.at in
-    end_number a.body a.self.records bs at (λ f. refuses f at) (λ _. ending bs (at + 5)) (clear (search rules)) (sym c.before.f2.given.1 ∙ v.end-faults.ensures ∙ ap (λ (n : ℕ). finding (end_checks a.self.records n)) g.get32.ensures))
+    end_number a.body a.self.records bs at (λ f. refuses f at) (λ _. ending bs (at + 5)) (clear (search rules)) (sym c.before.f-in-Fault-end_faults-1.given.1 ∙ v.end_faults.ensures ∙ ap (λ (n : ℕ). finding (end_checks a.self.records n)) g.get32.ensures))
     (λ c.
     let s : tie.Start = search rules in
-    let v : tie.After-end-faults = search rules in
+    let v : tie.After-end_faults = search rules in
     let g : tie.After-get32 = search rules in
-    let e : tie.After-enum-told2 = search rules in
+    let e : tie.In-Clear-end_faults = search rules in
     let a = s.args in
     let bs = a.input.now in
     let at = a.self.at in
     let t : ending bs (at + 5) ≡ gives [] = ap (λ (b : Bool). cond b (refuses Tail (at + 5)) (gives [])) (le-ltb (at + 5) (length bs) (search rules)) in
-    sym t ∙ end_number a.body a.self.records bs at (λ f. refuses f at) (λ _. ending bs (at + 5)) (clear (search rules)) (sym e.enum-told2.given.1 ∙ v.end-faults.ensures ∙ ap (λ (n : ℕ). finding (end_checks a.self.records n)) g.get32.ensures)))
+    sym t ∙ end_number a.body a.self.records bs at (λ f. refuses f at) (λ _. ending bs (at + 5)) (clear (search rules)) (sym e.enum_told-in-Clear-end_faults-1.given.1 ∙ v.end_faults.ensures ∙ ap (λ (n : ℕ). finding (end_checks a.self.records n)) g.get32.ensures)))

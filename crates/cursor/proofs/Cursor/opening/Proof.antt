@@ -16,8 +16,8 @@ opening_spec =
     (λ c κs. search rules)
     (λ c.
     let s : tie.Start = search rules in
-    let k : tie.After-kind-at = search rules in
-    let b : tie.After-body-length = search rules in
+    let k : tie.After-kind_at = search rules in
+    let b : tie.After-body_length-body = search rules in
     let a = s.args in
     c.opens.ensures
-    ∙ opening_table a.input.now a.self.at a.due a.astray a.full forms _ (b.body-length.ensures ∙ ap (body_of forms) k.kind_at.ensures)))
+    ∙ opening_table a.input.now a.self.at a.due a.astray a.full forms _ (b.body_length-body.ensures ∙ ap (body_of forms) k.kind_at.ensures)))

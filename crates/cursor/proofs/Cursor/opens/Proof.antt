@@ -15,7 +15,7 @@ pub opens_spec : {M : Type 1} → statement M
 opens_spec =
     tie.close
     (tie.spec
-    (λ c. let s : tie.Start = search rules in let a = s.args in opening_cut a.input.now a.self.at a.due a.astray a.full a.body c.if1.true)
+    (λ c. let s : tie.Start = search rules in let a = s.args in opening_cut a.input.now a.self.at a.due a.astray a.full a.body c.if-input-at.true)
     (λ c. search rules)
     (λ c. search rules)
     (λ c. search rules)
@@ -26,21 +26,21 @@ opens_spec =
     (λ c κs. search rules)
     (λ c.
     let s : tie.Start = search rules in
-    let l : tie.Else1 = search rules in
+    let l : tie.Else-input-at = search rules in
     let a = s.args in
-    opening_more a.input.now a.self.at a.due a.astray a.full c.before.body.given.1 l.if1.left)
+    opening_more a.input.now a.self.at a.due a.astray a.full c.before.body-1.given.1 l.if-input-at.false)
     (λ c.
     let s : tie.Start = search rules in
-    let l : tie.Else1 = search rules in
-    let n : tie.After-body2 = search rules in
+    let l : tie.Else-input-at = search rules in
+    let n : tie.In-Bytes-2 = search rules in
     let a = s.args in
     let bs = a.input.now in
-    c.check4.ensures
+    c.check-in-Bytes-2.ensures
     ∙ ap (λ (x : Finding). cond (eqb (get_or bs a.self.at 0) a.due) x (Fault Place))
-    (c.before.check3.ensures
+    (c.before.check-in-Bytes.ensures
     ∙ ap (λ (x : Finding). cond (not a.astray) x (Fault Place))
-    (c.before.before.check2.ensures
+    (c.before.before.check.ensures
     ∙ ap (λ (x : Finding). cond (not a.full) x (Fault Full))
-    (c.before.before.before.check.ensures
-    ∙ ap (λ (b : Bool). cond b Clear (Fault Cut)) (room_left a.self.at n.body2.given.0.0 (length bs)))))
-    ∙ opening_more bs a.self.at a.due a.astray a.full n.body2.given.1 l.if1.left))
+    (c.before.before.before.check-cut.ensures
+    ∙ ap (λ (b : Bool). cond b Clear (Fault Cut)) (room_left a.self.at n.body-in-Bytes-1.given.0.0 (length bs)))))
+    ∙ opening_more bs a.self.at a.due a.astray a.full n.body-in-Bytes-1.given.1 l.if-input-at.false))

@@ -21,13 +21,13 @@ use Rattle.cursor.specs.StepsLaws.{prefix_room_lem}
 use Rattle.cursor.proofs.Cursor.prefix.Statement.{statement}
 use Rattle.cursor.proofs.Cursor.prefix.Tie as tie
 
-abbrev start : tie.After-enum-told → tie.Start
+abbrev start : tie.In-Clear → tie.Start
 start c = search rules
 
-clear : (c : tie.After-enum-told) → let s = start c in Clear ≡ finding (opening_checks forms s.args.input.now s.args.self.at 4 (false) (leb most_prefixes s.args.k.prefixes))
-clear c = let o : tie.After-opening = search rules in sym c.enum_told.given.1 ∙ o.opening.ensures
+clear : (c : tie.In-Clear) → let s = start c in Clear ≡ finding (opening_checks forms s.args.input.now s.args.self.at 4 (false) (leb most_prefixes s.args.k.prefixes))
+clear c = let o : tie.After-opening = search rules in sym c.enum_told-1.given.1 ∙ o.opening.ensures
 
-whole : (c : tie.After-enum-told) → let s = start c in s.args.self.at + body_length forms 4 < length s.args.input.now
+whole : (c : tie.In-Clear) → let s = start c in s.args.self.at + body_length forms 4 < length s.args.input.now
 whole c = let s = start c in opened forms s.args.input.now s.args.self.at 4 (false) (leb most_prefixes s.args.k.prefixes) (clear c)
 
 pub prefix_spec : {M : Type 1} → statement M
@@ -49,23 +49,23 @@ prefix_spec =
     let bs = s.args.input.now in
     let at = s.args.self.at in
     let k = s.args.k in
-    at_opening forms bs at (only prefix_form) (prefix_room k.prefixes) (false) (leb most_prefixes k.prefixes) (λ v. prefix_faults k (get_or v 0 0) (get_or v 1 0)) (λ f. refuses f at) (λ _. took (after s.args.self prefix_form) (values_at prefix_form bs at)) refl (prefix_room_lem k _) (sym c.before.f.given.1 ∙ o.opening.ensures))
+    at_opening forms bs at (only prefix_form) (prefix_room k.prefixes) (false) (leb most_prefixes k.prefixes) (λ v. prefix_faults k (get_or v 0 0) (get_or v 1 0)) (λ f. refuses f at) (λ _. took (after s.args.self prefix_form) (values_at prefix_form bs at)) refl (prefix_room_lem k _) (sym c.before.f-1.given.1 ∙ o.opening.ensures))
     (λ c.
     let s : tie.Start = search rules in
     let o : tie.After-opening = search rules in
     let bs = s.args.input.now in
     let at = s.args.self.at in
-    let v : tie.After-prefix-faults = search rules in
-    let g : tie.After-network-at = search rules in
+    let v : tie.After-prefix_faults = search rules in
+    let g : tie.After-network_at-p = search rules in
     let k = s.args.k in
-    at_values forms bs at (only prefix_form) (prefix_room k.prefixes) (false) (leb most_prefixes k.prefixes) (λ v. prefix_faults k (get_or v 0 0) (get_or v 1 0)) (λ f. refuses f at) (λ _. took (after s.args.self prefix_form) (values_at prefix_form bs at)) refl (prefix_room_lem k _) (clear (search rules)) (sym c.before.f2.given.1 ∙ v.prefix-faults.ensures ∙ ap (λ (p : Network). finding (prefix_faults k p.address p.bits)) g.network-at.ensures))
+    at_values forms bs at (only prefix_form) (prefix_room k.prefixes) (false) (leb most_prefixes k.prefixes) (λ v. prefix_faults k (get_or v 0 0) (get_or v 1 0)) (λ f. refuses f at) (λ _. took (after s.args.self prefix_form) (values_at prefix_form bs at)) refl (prefix_room_lem k _) (clear (search rules)) (sym c.before.f-in-Fault-prefix_faults-1.given.1 ∙ v.prefix_faults.ensures ∙ ap (λ (p : Network). finding (prefix_faults k p.address p.bits)) g.network_at-p.ensures))
     (λ c.
     let s : tie.Start = search rules in
     let o : tie.After-opening = search rules in
     let bs = s.args.input.now in
     let at = s.args.self.at in
-    let v : tie.After-prefix-faults = search rules in
-    let g : tie.After-network-at = search rules in
-    let e : tie.After-enum-told2 = search rules in
+    let v : tie.After-prefix_faults = search rules in
+    let g : tie.After-network_at-p = search rules in
+    let e : tie.In-Clear-prefix_faults = search rules in
     let k = s.args.k in
-    ap₂ (λ (c : Cursor) (p : Network). prefix_said (Took c p)) c.past.ensures g.network-at.ensures ∙ at_end forms bs at (only prefix_form) (prefix_room k.prefixes) (false) (leb most_prefixes k.prefixes) (λ v. prefix_faults k (get_or v 0 0) (get_or v 1 0)) (λ f. refuses f at) (λ _. took (after s.args.self prefix_form) (values_at prefix_form bs at)) refl (prefix_room_lem k _) (clear (search rules)) (sym e.enum-told2.given.1 ∙ v.prefix-faults.ensures ∙ ap (λ (p : Network). finding (prefix_faults k p.address p.bits)) g.network-at.ensures)))
+    ap₂ (λ (c : Cursor) (p : Network). prefix_said (Took c p)) c.past.ensures g.network_at-p.ensures ∙ at_end forms bs at (only prefix_form) (prefix_room k.prefixes) (false) (leb most_prefixes k.prefixes) (λ v. prefix_faults k (get_or v 0 0) (get_or v 1 0)) (λ f. refuses f at) (λ _. took (after s.args.self prefix_form) (values_at prefix_form bs at)) refl (prefix_room_lem k _) (clear (search rules)) (sym e.enum_told-in-Clear-prefix_faults-1.given.1 ∙ v.prefix_faults.ensures ∙ ap (λ (p : Network). finding (prefix_faults k p.address p.bits)) g.network_at-p.ensures)))

@@ -35,20 +35,20 @@ abbrev full : tie.Start → Bool
 full s = leb most_in_prefix s.args.k.inside || leb most_routes s.args.k.routes
 
 -- the kind that stands there tells the form
-by_kind : (c : tie.After-kind-at) → route_form_by (eqb c.kind_at.result 7) ≡ form (search rules)
-by_kind c = ap (λ (k : ℕ). route_form_by (eqb k 7)) c.kind_at.ensures
+by_kind : (c : tie.After-kind_at-four) → route_form_by (eqb c.kind_at-four.result 7) ≡ form (search rules)
+by_kind c = ap (λ (k : ℕ). route_form_by (eqb k 7)) c.kind_at-four.ensures
 
-due : (c : tie.After-route-kind) → c.route-kind.result ≡ (form (search rules)).kind
-due c = c.route-kind.ensures ∙ ap (λ (f : Form). f.kind) (by_kind (search rules))
+due : (c : tie.After-route_kind-kind) → c.route_kind-kind.result ≡ (form (search rules)).kind
+due c = c.route_kind-kind.ensures ∙ ap (λ (f : Form). f.kind) (by_kind (search rules))
 
-clear : (c : tie.After-enum-told) → let s : tie.Start = search rules in Clear ≡ finding (opening_checks forms (bytes s) (place s) (form s).kind (eqb s.args.k.prefixes 0) (full s))
+clear : (c : tie.In-Clear) → let s : tie.Start = search rules in Clear ≡ finding (opening_checks forms (bytes s) (place s) (form s).kind (eqb s.args.k.prefixes 0) (full s))
 clear c =
     let s : tie.Start = search rules in
     let o : tie.After-opening = search rules in
-    sym c.enum_told.given.1 ∙ o.opening.ensures
+    sym c.enum_told-1.given.1 ∙ o.opening.ensures
     ∙ ap (λ (k : ℕ). finding (opening_checks forms (bytes s) (place s) k (eqb s.args.k.prefixes 0) (full s))) (due (search rules))
 
-whole : (c : tie.After-enum-told) → let s : tie.Start = search rules in s.args.self.at + size (form s) ≤ length s.args.input.now
+whole : (c : tie.In-Clear) → let s : tie.Start = search rules in s.args.self.at + size (form s) ≤ length s.args.input.now
 whole c =
     let s : tie.Start = search rules in
     let l = opened forms (bytes s) (place s) (form s).kind (eqb s.args.k.prefixes 0) (full s) (clear c) in
@@ -56,21 +56,21 @@ whole c =
     omega (arith, l, long)
 
 -- the route that is read, and what its values find
-read : (c : tie.After-route-at) → let s : tie.Start = search rules in c.route-at.result ≡ route_at (bytes s) (place s) (eqb (get_or (bytes s) (place s) 0) 7)
+read : (c : tie.After-route_at-r) → let s : tie.Start = search rules in c.route_at-r.result ≡ route_at (bytes s) (place s) (eqb (get_or (bytes s) (place s) 0) 7)
 read c =
     let s : tie.Start = search rules in
-    let k : tie.After-kind-at = search rules in
-    c.route-at.ensures ∙ ap (λ (k : ℕ). route_at (bytes s) (place s) (eqb k 7)) k.kind_at.ensures
+    let k : tie.After-kind_at-four = search rules in
+    c.route_at-r.ensures ∙ ap (λ (k : ℕ). route_at (bytes s) (place s) (eqb k 7)) k.kind_at-four.ensures
 
-found : (c : tie.After-route-faults) → let s : tie.Start = search rules in
-    c.route-faults.result ≡ finding (route_faults_in s.args.k (form s).kind (route_of (values_at (form s) (bytes s) (place s))))
+found : (c : tie.After-route_faults) → let s : tie.Start = search rules in
+    c.route_faults.result ≡ finding (route_faults_in s.args.k (form s).kind (route_of (values_at (form s) (bytes s) (place s))))
 found c =
     let s : tie.Start = search rules in
-    c.route-faults.ensures
+    c.route_faults.ensures
     ∙ ap₂ (λ (k : ℕ) (r : Route). finding (route_faults_in s.args.k k (route_is r))) (due (search rules)) (read (search rules))
 
-sized : (c : tie.After-route-size) → c.route_size_lem.result ≡ size (form (search rules))
-sized c = c.route_size_lem.ensures ∙ ap size (by_kind (search rules))
+sized : (c : tie.After-route_size) → c.route_size.result ≡ size (form (search rules))
+sized c = c.route_size.ensures ∙ ap size (by_kind (search rules))
 
 pub route_spec : {M : Type 1} → statement M
 unfolding route_next
@@ -99,18 +99,18 @@ route_spec =
     let o : tie.After-opening = search rules in
     let k = s.args.k in
     at_opening forms (bytes s) (place s) route_forms (route_room k.prefixes k.inside k.routes) (eqb k.prefixes 0) (full s) (λ v. route_faults k (route_of v)) (λ f. refuses f (place s)) (λ _. took (after s.args.self (form s)) (values_at (form s) (bytes s) (place s))) (route_long (eqb (get_or (bytes s) (place s) 0) 7)) (route_room_lem k _)
-    (sym c.before.f.given.1 ∙ o.opening.ensures
+    (sym c.before.f-1.given.1 ∙ o.opening.ensures
     ∙ ap (λ (d : ℕ). finding (opening_checks forms (bytes s) (place s) d (eqb k.prefixes 0) (full s))) (due (search rules))))
     (λ c.
     let s : tie.Start = search rules in
     let k = s.args.k in
     at_values forms (bytes s) (place s) route_forms (route_room k.prefixes k.inside k.routes) (eqb k.prefixes 0) (full s) (λ v. route_faults k (route_of v)) (λ f. refuses f (place s)) (λ _. took (after s.args.self (form s)) (values_at (form s) (bytes s) (place s))) (route_long (eqb (get_or (bytes s) (place s) 0) 7)) (route_room_lem k _)
-    (clear (search rules)) (sym c.before.f2.given.1 ∙ found (search rules)))
+    (clear (search rules)) (sym c.before.f-in-Fault-route_faults-1.given.1 ∙ found (search rules)))
     (λ c.
     let s : tie.Start = search rules in
-    let e : tie.After-enum-told2 = search rules in
+    let e : tie.In-Clear-route_faults = search rules in
     let k = s.args.k in
     ap₂ (λ (c : Cursor) (r : Route). route_said (Took c r)) (c.past.ensures ∙ ap (behind s.args.self) (sized (search rules))) (read (search rules))
     ∙ route_says (after s.args.self (form s)) (bytes s) (place s) (eqb (get_or (bytes s) (place s) 0) 7)
     ∙ at_end forms (bytes s) (place s) route_forms (route_room k.prefixes k.inside k.routes) (eqb k.prefixes 0) (full s) (λ v. route_faults k (route_of v)) (λ f. refuses f (place s)) (λ _. took (after s.args.self (form s)) (values_at (form s) (bytes s) (place s))) (route_long (eqb (get_or (bytes s) (place s) 0) 7)) (route_room_lem k _)
-    (clear (search rules)) (sym e.enum-told2.given.1 ∙ found (search rules))))
+    (clear (search rules)) (sym e.enum_told-in-Clear-route_faults-1.given.1 ∙ found (search rules))))

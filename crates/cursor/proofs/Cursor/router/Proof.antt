@@ -19,13 +19,13 @@ use Rattle.cursor.specs.Steps.{finding, body_length, opening_checks, after, ids_
 use Rattle.cursor.proofs.Cursor.router.Statement.{statement}
 use Rattle.cursor.proofs.Cursor.router.Tie as tie
 
-abbrev start : tie.After-enum-told → tie.Start
+abbrev start : tie.In-Clear → tie.Start
 start c = search rules
 
-clear : (c : tie.After-enum-told) → let s = start c in Clear ≡ finding (opening_checks forms s.args.input.now s.args.self.at 2 (false) (false))
-clear c = let o : tie.After-opening = search rules in sym c.enum_told.given.1 ∙ o.opening.ensures
+clear : (c : tie.In-Clear) → let s = start c in Clear ≡ finding (opening_checks forms s.args.input.now s.args.self.at 2 (false) (false))
+clear c = let o : tie.After-opening = search rules in sym c.enum_told-1.given.1 ∙ o.opening.ensures
 
-whole : (c : tie.After-enum-told) → let s = start c in s.args.self.at + body_length forms 2 < length s.args.input.now
+whole : (c : tie.In-Clear) → let s = start c in s.args.self.at + body_length forms 2 < length s.args.input.now
 whole c = let s = start c in opened forms s.args.input.now s.args.self.at 2 (false) (false) (clear c)
 
 pub router_spec : {M : Type 1} → statement M
@@ -39,7 +39,7 @@ router_spec =
     (λ c κs. omega (arith, whole (search rules)))
     (λ c. omega (arith, whole (search rules)))
     (λ c κs. omega (arith, whole (search rules)))
-    (λ c κs. let s : tie.Start = search rules in omega (arith, s.pre.1, whole (search rules)))
+    (λ c κs. let s : tie.Start = search rules in omega (arith, s.requires.1, whole (search rules)))
     (λ c. search rules)
     (λ c. search rules)
     (λ c κs. (search rules, omega (arith, whole (search rules)), omega arith))
@@ -48,23 +48,23 @@ router_spec =
     let o : tie.After-opening = search rules in
     let bs = s.args.input.now in
     let at = s.args.self.at in
-    at_opening forms bs at (only router_form) ([]) (false) (false) (router_values s.args.routers (ids_at bs s.args.first s.args.given)) (λ f. refuses f at) (λ _. took (after s.args.self router_form) (get_or (values_at router_form bs at) 1 0 ∷ [])) refl (no_extra _) (sym c.before.f.given.1 ∙ o.opening.ensures))
+    at_opening forms bs at (only router_form) ([]) (false) (false) (router_values s.args.routers (ids_at bs s.args.first s.args.given)) (λ f. refuses f at) (λ _. took (after s.args.self router_form) (get_or (values_at router_form bs at) 1 0 ∷ [])) refl (no_extra _) (sym c.before.f-1.given.1 ∙ o.opening.ensures))
     (λ c.
     let s : tie.Start = search rules in
     let o : tie.After-opening = search rules in
     let bs = s.args.input.now in
     let at = s.args.self.at in
-    let v : tie.After-router-faults = search rules in
-    let g : tie.After-id-at = search rules in
+    let v : tie.After-router_faults = search rules in
+    let g : tie.After-id_at-id = search rules in
     let h : tie.After-get8 = search rules in
-    at_values forms bs at (only router_form) ([]) (false) (false) (router_values s.args.routers (ids_at bs s.args.first s.args.given)) (λ f. refuses f at) (λ _. took (after s.args.self router_form) (get_or (values_at router_form bs at) 1 0 ∷ [])) refl (no_extra _) (clear (search rules)) (sym c.before.f2.given.1 ∙ v.router-faults.ensures ∙ ap₂ (λ (i id : ℕ). finding (router_checks s.args.routers (ids_at bs s.args.first s.args.given) i id)) h.get8.ensures g.id_at_lem.ensures))
+    at_values forms bs at (only router_form) ([]) (false) (false) (router_values s.args.routers (ids_at bs s.args.first s.args.given)) (λ f. refuses f at) (λ _. took (after s.args.self router_form) (get_or (values_at router_form bs at) 1 0 ∷ [])) refl (no_extra _) (clear (search rules)) (sym c.before.f-in-Fault-router_faults-1.given.1 ∙ v.router_faults.ensures ∙ ap₂ (λ (i id : ℕ). finding (router_checks s.args.routers (ids_at bs s.args.first s.args.given) i id)) h.get8.ensures g.id_at-id.ensures))
     (λ c.
     let s : tie.Start = search rules in
     let o : tie.After-opening = search rules in
     let bs = s.args.input.now in
     let at = s.args.self.at in
-    let v : tie.After-router-faults = search rules in
-    let g : tie.After-id-at = search rules in
+    let v : tie.After-router_faults = search rules in
+    let g : tie.After-id_at-id = search rules in
     let h : tie.After-get8 = search rules in
-    let e : tie.After-enum-told2 = search rules in
-    ap₂ (λ (c : Cursor) (n : ℕ). step_said (Took c n)) c.past.ensures g.id_at_lem.ensures ∙ at_end forms bs at (only router_form) ([]) (false) (false) (router_values s.args.routers (ids_at bs s.args.first s.args.given)) (λ f. refuses f at) (λ _. took (after s.args.self router_form) (get_or (values_at router_form bs at) 1 0 ∷ [])) refl (no_extra _) (clear (search rules)) (sym e.enum-told2.given.1 ∙ v.router-faults.ensures ∙ ap₂ (λ (i id : ℕ). finding (router_checks s.args.routers (ids_at bs s.args.first s.args.given) i id)) h.get8.ensures g.id_at_lem.ensures)))
+    let e : tie.In-Clear-router_faults = search rules in
+    ap₂ (λ (c : Cursor) (n : ℕ). step_said (Took c n)) c.past.ensures g.id_at-id.ensures ∙ at_end forms bs at (only router_form) ([]) (false) (false) (router_values s.args.routers (ids_at bs s.args.first s.args.given)) (λ f. refuses f at) (λ _. took (after s.args.self router_form) (get_or (values_at router_form bs at) 1 0 ∷ [])) refl (no_extra _) (clear (search rules)) (sym e.enum_told-in-Clear-router_faults-1.given.1 ∙ v.router_faults.ensures ∙ ap₂ (λ (i id : ℕ). finding (router_checks s.args.routers (ids_at bs s.args.first s.args.given) i id)) h.get8.ensures g.id_at-id.ensures)))
