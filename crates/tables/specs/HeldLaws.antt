@@ -1,5 +1,5 @@
 -- What counts and tables hold: at most one snapshot, which is `snapshot_of`, and where its parts stand.
-use Rattle.std.specs.Prelude.{ℕ, zero, suc, ◌+◌, ◌-◌, ◌*◌, ◌/◌, ◌%◌, ◌≤◌, ◌<◌, ◌≡◌, refl, ◌≢◌, Bool, true, cond, List, [], ◌∷◌, map, length, get_or, take, eqb}
+use Rattle.std.specs.Prelude.{ℕ, zero, suc, ◌+◌, ◌-◌, ◌*◌, ◌/◌, ◌%◌, ◌≤◌, ◌<◌, ◌≡◌, refl, ◌≢◌, Bool, true, cond, List, [], ◌∷◌, map, length, get_or, take}
 use Rattle.std.proofs.Common.{not-suc-le-zero, arith, sym, ap, ◌∙◌, ext_get_or, take-suc, get_or-append-add, lt-ltb, eq-eqb, ne_eqb}
 use Rattle.std.proofs.lemmas.List.{length-map}
 use Rattle.std.proofs.Math.ListN.{get_or-append}
@@ -10,7 +10,7 @@ use Rattle.model.specs.Decision.{Route}
 use Rattle.model.specs.RowLaws.{table_at, table_same}
 use Rattle.snapshot.specs.declared.Counts.{Counts}
 use Rattle.snapshot.specs.Limits.{most_routers, stride, most_prefixes, most_routes}
-use Rattle.snapshot.specs.Format.{Prefix, Snapshot, Pair, row, rows, pairs, pairs_before, distance, routes_in, Valid}
+use Rattle.snapshot.specs.Format.{Prefix, Snapshot, Pair, pairs, pairs_before, distance, routes_in, Valid}
 use Rattle.snapshot.specs.Tables.{Columns, Tables, used, put_distances, all_routes, filled, Held, Room}
 use Rattle.snapshot.specs.ChecksLaws.{routers_few, routes_in_append}
 use Rattle.snapshot.specs.PairsLaws.{pairs_length, pair_two, pair_at, pair_of}

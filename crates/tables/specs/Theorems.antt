@@ -17,7 +17,7 @@ use Rattle.model.specs.SoundLaws.{Rising, rising_sound}
 use Rattle.model.specs.RowLaws.{table_length, table_at, start_within}
 use Rattle.snapshot.specs.declared.Counts.{Counts}
 use Rattle.snapshot.specs.Limits.{most_in_prefix, most_routes}
-use Rattle.snapshot.specs.Ranges.{any_of, none, route_tests, rises, rises_route}
+use Rattle.snapshot.specs.Ranges.{any_of, none, route_tests, rises_route}
 use Rattle.snapshot.specs.RangesLaws.{none_at}
 use Rattle.snapshot.specs.Format.{Prefix, Snapshot, Each, GoodId, GoodRoute, GoodPrefix, distance, Valid}
 use Rattle.snapshot.specs.Tables.{Tables, short, Held, routes_of, mesh, Room}

@@ -1,6 +1,7 @@
 // Judging tables: whether counts and lent tables are those of some snapshot (TABLE). One function for each part of the tables; the
 // tests of values are those of crate snapshot, as in reading.
 #![tactic(auto)]
+
 ghost use Rattle.std.specs.Prelude.{◌≡◌, ◌+◌, ◌≤◌, ◌<◌, length, eqb, ltb};
 ghost use Rattle.model.specs.Rows.{some, table, column, start};
 ghost use Rattle.snapshot.specs.Limits.{most_routers, room_distances, farthest, most_prefixes, most_routes};

@@ -1,7 +1,6 @@
 -- `distances_good` meets its contract: the rows before `from` passed. Assumes nothing.
 use Prim.Native.Nat.{◌-◌}
 use borrow.Author.Rules.{rules}
-use borrow.Author.Tests.{not-true, not-false}
 use Rattle.tables.specs.Judging.{CellGood, Below}
 use Rattle.tables.specs.JudgeLaws.{SoFar, sofar, sofar_next, sofar_end, sofar_not}
 use Rattle.tables.proofs.distances_good.Statement.{statement}
@@ -22,9 +21,9 @@ distances_good_spec =
     (λ c. sofar)
     (λ c κs. search rules)
     (λ c. let turn : tie.In-loop-from invariant-loop-from decreases-loop-from = search rules in
-    sofar_not turn.loop-from-test.true (c.before.row_good.ensures.no (not-true _ c.if-not-row_good.true)))
+    sofar_not turn.loop-from-test.true (c.before.row_good.ensures.no c.if-not-row_good.true))
     (λ c. search rules)
     (λ c. search rules)
     (λ c. let turn : tie.In-loop-from invariant-loop-from decreases-loop-from = search rules in
-    sofar_next turn.before.loop-from.invariant turn.loop-from-test.true (c.before.row_good.ensures.yes (not-false _ c.if-not-row_good.false)))
+    sofar_next turn.before.loop-from.invariant turn.loop-from-test.true (c.before.row_good.ensures.yes c.if-not-row_good.false))
     (λ c. sofar_end c.before.loop-from.invariant c.loop-from-test.false))

@@ -2,7 +2,6 @@
 use mathlib.Core.Path.{sym, ◌∙◌, subst}
 use lib.Dec.{T}
 use borrow.Author.Rules.{rules}
-use borrow.Author.Tests.{not-true, not-false}
 use Rattle.snapshot.specs.Ranges.{none}
 use Rattle.snapshot.specs.RangesLaws.{none_any}
 use Rattle.snapshot.specs.Tables.{Tables, tables, columns, short}
@@ -33,5 +32,5 @@ examine_spec =
     (λ c κs. search rules)
     (λ c. room (subst T (sym (sym c.before.lacks_room.ensures ∙ c.if-lacks_room.true)) tt))
     (λ c κs. has_room (lent (start_of c)) (enough c))
-    (λ c. unheld (enough c.before.before) (c.before.judge.ensures.no (not-true _ c.if-not-judge.true)))
-    (λ c. held (enough c.before.before) (c.before.judge.ensures.yes (not-false _ c.if-not-judge.false))))
+    (λ c. unheld (enough c.before.before) (c.before.judge.ensures.no c.if-not-judge.true))
+    (λ c. held (enough c.before.before) (c.before.judge.ensures.yes c.if-not-judge.false)))

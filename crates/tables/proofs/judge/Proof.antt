@@ -1,7 +1,6 @@
 -- `judge` meets its contract: it asks of each part in turn. Assumes nothing.
 use native.Mathlib.Omega.{arith}
 use borrow.Author.Rules.{rules}
-use borrow.Author.Tests.{not-true, not-false}
 use Rattle.tables.specs.PartsLaws.{judged_no, judged_last}
 use Rattle.snapshot.specs.TablesLaws.{room_alone}
 use Rattle.tables.specs.JudgeLaws.{few_routers}
@@ -14,27 +13,27 @@ judge_spec =
     (tie.spec
     (λ c κs. search rules)
     (λ c. let start : tie.Start = search rules in
-    judged_no start.requires (λ parts. c.before.counts_good.ensures.no (not-true _ c.if-not-counts_good.true) parts.range))
+    judged_no start.requires (λ parts. c.before.counts_good.ensures.no c.if-not-counts_good.true parts.range))
     (λ c. search rules)
     (λ c κs. let start : tie.Start = search rules in
     let counted : tie.Else-not-counts_good = search rules in
-    omega (arith, few_routers (counted.before.counts_good.ensures.yes (not-false _ counted.if-not-counts_good.false)), start.requires.ids))
+    omega (arith, few_routers (counted.before.counts_good.ensures.yes counted.if-not-counts_good.false), start.requires.ids))
     (λ c. let start : tie.Start = search rules in
-    judged_no start.requires (λ parts. c.before.ids_good.ensures.no (not-true _ c.if-not-ids_good.true) parts.ids))
+    judged_no start.requires (λ parts. c.before.ids_good.ensures.no c.if-not-ids_good.true parts.ids))
     (λ c. search rules)
     (λ c κs. let start : tie.Start = search rules in
     let counted : tie.Else-not-counts_good = search rules in
-    (few_routers (counted.before.counts_good.ensures.yes (not-false _ counted.if-not-counts_good.false)), start.requires.distances))
+    (few_routers (counted.before.counts_good.ensures.yes counted.if-not-counts_good.false), start.requires.distances))
     (λ c. let start : tie.Start = search rules in
-    judged_no start.requires (λ parts. c.before.distances_good.ensures.no (not-true _ c.if-not-distances_good.true) parts.distances))
+    judged_no start.requires (λ parts. c.before.distances_good.ensures.no c.if-not-distances_good.true parts.distances))
     (λ c κs. let start : tie.Start = search rules in
     let counted : tie.Else-not-counts_good = search rules in
-    (counted.before.counts_good.ensures.yes (not-false _ counted.if-not-counts_good.false), room_alone start.requires.prefixes))
+    (counted.before.counts_good.ensures.yes counted.if-not-counts_good.false, room_alone start.requires.prefixes))
     (λ c. let start : tie.Start = search rules in
     let counted : tie.Else-not-counts_good = search rules in
     let named : tie.Else-not-ids_good = search rules in
     judged_last start.requires
-    (counted.before.counts_good.ensures.yes (not-false _ counted.if-not-counts_good.false))
-    (named.before.ids_good.ensures.yes (not-false _ named.if-not-ids_good.false))
-    (c.before.before.distances_good.ensures.yes (not-false _ c.before.if-not-distances_good.false))
+    (counted.before.counts_good.ensures.yes counted.if-not-counts_good.false)
+    (named.before.ids_good.ensures.yes named.if-not-ids_good.false)
+    (c.before.before.distances_good.ensures.yes c.before.if-not-distances_good.false)
     c.prefixes_good.ensures))

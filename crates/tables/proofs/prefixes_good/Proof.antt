@@ -3,7 +3,6 @@ use Prim.Native.Nat.{◌-◌}
 use native.Mathlib.Omega.{arith}
 use mathlib.Core.Path.{refl}
 use borrow.Author.Rules.{rules}
-use borrow.Author.Tests.{not-true, not-false}
 use Rattle.snapshot.specs.Tables.{columns, prefix_tables}
 use Rattle.tables.specs.JudgeLaws.{few_routers, Counting, counting, counting_next, counting_over, counting_not, counting_end}
 use Rattle.tables.proofs.prefixes_good.Statement.{statement}
@@ -44,13 +43,13 @@ prefixes_good_spec =
     (λ c.
     let at : tie.At-loop-p invariant-loop-p decreases-loop-p = search rules in
     let turn : tie.In-loop-p invariant-loop-p decreases-loop-p = search rules in
-    counting_not at.loop-p.invariant turn.loop-p-test.true (c.before.prefix_good.ensures.no (not-true _ c.if-not-prefix_good.true)))
+    counting_not at.loop-p.invariant turn.loop-p-test.true (c.before.prefix_good.ensures.no c.if-not-prefix_good.true))
     (λ c. search rules)
     (λ c. search rules)
     (λ c.
     let at : tie.At-loop-p invariant-loop-p decreases-loop-p = search rules in
     let turn : tie.In-loop-p invariant-loop-p decreases-loop-p = search rules in
-    counting_next at.loop-p.invariant turn.loop-p-test.true refl c.before.before.if-counts-next.false (c.before.prefix_good.ensures.yes (not-false _ c.if-not-prefix_good.false)))
+    counting_next at.loop-p.invariant turn.loop-p-test.true refl c.before.before.if-counts-next.false (c.before.prefix_good.ensures.yes c.if-not-prefix_good.false))
     (λ c. search rules)
     (λ c.
     let at : tie.At-loop-p invariant-loop-p decreases-loop-p = search rules in
