@@ -1,5 +1,6 @@
 // Choosing among what is available: the eight steps of document 01, over lent columns, one function a step and in its order.
 #![tactic(auto)]
+
 ghost use Rattle.std.specs.Prelude.{◌≡◌, cond, ◌||◌, ℕ, ◌+◌, ◌*◌, ◌≤◌, ◌<◌, length, get_or, eqb};
 ghost use Rattle.model.specs.Rows.{keep, some, span, column, keep_least, keep_greatest};
 ghost use Rattle.model.specs.Decision.{none, beats_by, unbeaten_by};

@@ -3,13 +3,13 @@ use Prim.Native.Nat.{ℕ, ◌-◌}
 use native.Mathlib.Omega.{arith}
 use mathlib.Core.Path.{◌≡◌, refl, ap, ◌∙◌}
 use mathlib.Core.Bool.{true, not}
-use mathlib.Core.Logic.{⊎_elim}
 use lib.ListN.{length}
 use borrow.Author.Rules.{rules}
 use Rattle.model.specs.Rows.{some, column}
 use Rattle.model.specs.Decision.{beats_by}
 use Rattle.model.specs.ListLaws.{Hunt, hunt, hunt_off, hunt_hit, hunt_end, Pack, pack, pack_off, pack_on, pack_room, pack_end}
 use Rattle.choice.proofs.unbeaten.Statement.{statement}
+use Rattle.choice.proofs.unbeaten.Lts.{else-scan-test, then-scan-test+then-beats}
 use Rattle.choice.proofs.unbeaten.Tie as tie
 
 abbrev invariant-scan : tie.invariant-scan
@@ -87,10 +87,10 @@ told c =
     let a = (start_of c).args in
     let row : tie.After-at-q invariant-scan decreases-scan invariant-loop-i decreases-loop-i = search rules in
     let i = c.before.scan.invariant in
-    ⊎_elim
-    (λ w. w.1 ∙ i.0 ∙ ap not (hunt_end i.1 w.0.left))
-    (λ w. w.4 ∙ ap not (hunt_hit i.1 w.0.taken (rw w.1.ensures at w.2.ensures) w.3.taken))
-    c.scan-test.branch
+    elim c.scan-test.branch [
+      | else-scan-test w ↦ w.stays-is ∙ i.0 ∙ ap not (hunt_end i.1 w.scan-test.false)
+      | then-scan-test+then-beats w ↦ w.stays-is ∙ ap not (hunt_hit i.1 w.scan-test.true (rw w.at-p.ensures at w.beats.ensures) w.if-beats.true)
+    ]
     ∙ ap (λ (q : ℕ). not (some (λ p. beats_by (column a.asn.now) (column a.med.now) p q) a.rows.now)) row.at-q.ensures
 
 loop-again : tie.Need-loop-i-preserved-then-stays invariant-scan decreases-scan invariant-loop-i decreases-loop-i
