@@ -13,10 +13,10 @@ returns c =
     let start : tie.Start = search rules in
     let a = start.args in
     let one : tie.After-put8 = search rules in
-    let two : tie.After-put82 = search rules in
-    let three : tie.After-put83 = search rules in
+    let two : tie.After-put8-2 = search rules in
+    let three : tie.After-put8-3 = search rules in
     let four : tie.After-put32 = search rules in
-    rw (four.put32.ensures, three.put83.ensures, two.put82.ensures, one.put8.ensures) (record_put distance_form (a.from ∷ a.to ∷ column a.distances.now a.cell ∷ []) a.out.now a.at refl)
+    rw (four.put32.ensures, three.put8-3.ensures, two.put8-2.ensures, one.put8.ensures) (record_put distance_form (a.from ∷ a.to ∷ column a.distances.now a.cell ∷ []) a.out.now a.at refl)
 
 pub put_distance_spec : {M : Type 1} → statement M
 put_distance_spec =

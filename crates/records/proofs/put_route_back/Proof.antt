@@ -13,13 +13,13 @@ returns c =
     let start : tie.Start = search rules in
     let a = start.args in
     let one : tie.After-put32 = search rules in
-    let two : tie.After-put322 = search rules in
-    let three : tie.After-put323 = search rules in
+    let two : tie.After-put32-2 = search rules in
+    let three : tie.After-put32-3 = search rules in
     let med = column a.med.now a.row in
     let nid = column a.nid.now a.row in
     let peer = column a.peer.now a.row in
     record {
-      same = then_put (a.at + 8) 4 peer (then_put (a.at + 4) 4 nid one.put32.ensures two.put322.ensures) three.put323.ensures
+      same = then_put (a.at + 8) 4 peer (then_put (a.at + 4) 4 nid one.put32.ensures two.put32-2.ensures) three.put32-3.ensures
           ∙ first_put 4 med (4 ∷ 4 ∷ []) (nid ∷ peer ∷ []) a.out.now a.at;
       place = refl;
     }

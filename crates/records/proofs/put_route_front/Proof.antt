@@ -10,57 +10,57 @@ use Rattle.records.proofs.put_route_front.Statement.{statement}
 use Rattle.records.proofs.put_route_front.Tie as tie
 
 -- the places before the form is asked
-abbrev one_of : tie.After-put82 → tie.After-put8
+abbrev one_of : tie.After-put8-2 → tie.After-put8
 one_of two = search rules
 
-abbrev kind-of : tie.After-put8 → tie.After-route-kind
+abbrev kind-of : tie.After-put8 → tie.After-route_kind
 kind-of one = search rules
 
-abbrev told_of : tie.After-route-kind → tie.After-four-byte
+abbrev told_of : tie.After-route_kind → tie.After-four_byte-four
 told_of kind = search rules
 
-abbrev start_of : tie.After-four-byte → tie.Start
+abbrev start_of : tie.After-four_byte-four → tie.Start
 start_of told = search rules
 
 put32-requires : tie.Need-put32-requires
 put32-requires c κs =
-    let two : tie.After-put82 = search rules in
+    let two : tie.After-put8-2 = search rules in
     let told = told_of (kind-of (one_of two)) in
     let start = start_of told in
-    let here : tie.Then1 = search rules in
-    omega (arith, front_room (column start.args.router.now start.args.row) (column start.args.asn.now start.args.row) true (sym here.if1.taken ∙ told.four-byte.ensures) start.pre.2)
+    let here : tie.Then-four = search rules in
+    omega (arith, front_room (column start.args.router.now start.args.row) (column start.args.asn.now start.args.row) true (sym here.if-four.true ∙ told.four_byte-four.ensures) start.requires.2)
 
 put16-requires : tie.Need-put16-requires
 put16-requires c κs =
-    let two : tie.After-put82 = search rules in
+    let two : tie.After-put8-2 = search rules in
     let told = told_of (kind-of (one_of two)) in
     let start = start_of told in
-    let here : tie.Else1 = search rules in
-    omega (arith, front_room (column start.args.router.now start.args.row) (column start.args.asn.now start.args.row) false (sym here.if1.left ∙ told.four-byte.ensures) start.pre.2)
+    let here : tie.Else-four = search rules in
+    omega (arith, front_room (column start.args.router.now start.args.row) (column start.args.asn.now start.args.row) false (sym here.if-four.false ∙ told.four_byte-four.ensures) start.requires.2)
 
-returns : tie.Need-returns
+returns : tie.Need-returns-then-four
 returns c =
-    let two : tie.After-put82 = search rules in
+    let two : tie.After-put8-2 = search rules in
     let one = one_of two in
     let kind = kind-of one in
     let told = told_of kind in
     let a = (start_of told).args in
-    let here : tie.Then1 = search rules in
+    let here : tie.Then-four = search rules in
     let three : tie.After-put32 = search rules in
-    front_put (column a.router.now a.row) (column a.asn.now a.row) true (sym here.if1.taken ∙ told.four-byte.ensures)
-    (kind.route-kind.ensures ∙ ap (λ (b : Bool). (route_form_by b).kind) here.if1.taken) one.put8.ensures two.put82.ensures three.put32.ensures refl
+    front_put (column a.router.now a.row) (column a.asn.now a.row) true (sym here.if-four.true ∙ told.four_byte-four.ensures)
+    (kind.route_kind.ensures ∙ ap (λ (b : Bool). (route_form_by b).kind) here.if-four.true) one.put8.ensures two.put8-2.ensures three.put32.ensures refl
 
-returns-2 : tie.Need-returns-2
+returns-2 : tie.Need-returns
 returns-2 c =
-    let two : tie.After-put82 = search rules in
+    let two : tie.After-put8-2 = search rules in
     let one = one_of two in
     let kind = kind-of one in
     let told = told_of kind in
     let a = (start_of told).args in
-    let here : tie.Else1 = search rules in
+    let here : tie.Else-four = search rules in
     let three : tie.After-put16 = search rules in
-    front_put (column a.router.now a.row) (column a.asn.now a.row) false (sym here.if1.left ∙ told.four-byte.ensures)
-    (kind.route-kind.ensures ∙ ap (λ (b : Bool). (route_form_by b).kind) here.if1.left) one.put8.ensures two.put82.ensures three.put16.ensures refl
+    front_put (column a.router.now a.row) (column a.asn.now a.row) false (sym here.if-four.false ∙ told.four_byte-four.ensures)
+    (kind.route_kind.ensures ∙ ap (λ (b : Bool). (route_form_by b).kind) here.if-four.false) one.put8.ensures two.put8-2.ensures three.put16.ensures refl
 
 pub put_route_front_spec : {M : Type 1} → statement M
 put_route_front_spec =

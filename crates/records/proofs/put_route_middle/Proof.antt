@@ -24,13 +24,13 @@ returns c =
     let two = two-of three in
     let one = one_of two in
     let a = (start_of one).args in
-    let four : tie.After-put82 = search rules in
+    let four : tie.After-put8-2 = search rules in
     let preference = column a.preference.now a.row in
     let path = column a.path.now a.row in
     let origin = column a.origin.now a.row in
     let mark = column a.mark.now a.row in
     record {
-      same = then_put (a.at + 7) 1 mark (then_put (a.at + 6) 1 origin (then_put (a.at + 4) 2 path one.put32.ensures two.put16.ensures) three.put8.ensures) four.put82.ensures
+      same = then_put (a.at + 7) 1 mark (then_put (a.at + 6) 1 origin (then_put (a.at + 4) 2 path one.put32.ensures two.put16.ensures) three.put8.ensures) four.put8-2.ensures
           ∙ first_put 4 preference (2 ∷ 1 ∷ 1 ∷ []) (path ∷ origin ∷ mark ∷ []) a.out.now a.at;
       place = refl;
     }
