@@ -13,4 +13,4 @@ count_faults_spec =
     (tie.spec
     (λ c κs. search rules)
     (λ c κs. search rules)
-    (λ c. c.check.ensures ∙ (λ i. cond (not (c.before.count_bad.ensures i)) Clear (Fault Field))))
+    (λ c. c.check.ensures ∙ (λ i. cond (not (c.count_bad.ensures i)) Clear (Fault Field))))

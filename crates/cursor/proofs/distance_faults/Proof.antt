@@ -17,7 +17,7 @@ distance_faults_spec =
     (λ c κs. search rules)
     (λ c κs. search rules)
     (λ c.
-    let d = c.before.before.before in
-    let a = d.before.args in
-    let order = c.before.check-2.ensures ∙ (λ i. cond (eqb a.from a.expected-from) (c.before.before.check.ensures i) (Fault Order)) in
+    let d = c.before in
+    let a = d.args in
+    let order = c.check-2.ensures ∙ (λ i. cond (eqb a.from a.expected_from) (c.check.ensures i) (Fault Order)) in
     c.check-3.ensures ∙ (λ i. cond (not (leb a.routers a.from || leb a.routers a.to || d.distance_bad.ensures i)) (order i) (Fault Field))))

@@ -7,4 +7,4 @@ use Rattle.cursor.proofs.kind_at.Tie as tie
 
 pub kind_at_spec : {M : Type 1} → statement M
 kind_at_spec =
-    tie.close (tie.spec (λ c. search rules) (λ c. search rules) (λ c. sym (get_or-eq_default c.before.args.input.now 0 c.if-at-input.false)))
+    tie.close (tie.spec (λ c. search rules) (λ c. search rules) (λ c. sym (get_or-eq_default c.args.input.now 0 c.if-at-input.false)))

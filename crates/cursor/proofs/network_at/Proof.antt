@@ -11,4 +11,4 @@ network_at_spec =
     (λ c κs. search rules)
     (λ c. search rules)
     (λ c κs. search rules)
-    (λ c. λ i. record { address = c.before.get32.ensures i; bits = c.get8.ensures i }))
+    (λ c. λ i. record { address = c.get32.ensures i; bits = c.get8.ensures i }))

@@ -19,6 +19,6 @@ prefix_faults_spec =
     (λ c.
     let k = c.before in
     let l = k.before in
-    let b = l.before.before in
-    let order = k.check.ensures ∙ (λ i. cond (not (not (eqb b.before.args.k.prefixes 0) && l.late.ensures i)) Clear (Fault Order)) in
+    let b = l.before in
+    let order = k.check.ensures ∙ (λ i. cond (not (not (eqb b.args.k.prefixes 0) && l.late.ensures i)) Clear (Fault Order)) in
     c.check-2.ensures ∙ (λ i. cond (not (b.prefix_bad-field.ensures i)) (order i) (Fault Field))))

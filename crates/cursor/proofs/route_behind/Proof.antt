@@ -25,11 +25,11 @@ route_behind_spec =
     record {
       router = s.args.router;
       asn = s.args.asn;
-      preference = c.before.before.before.before.before.before.get32.ensures i;
-      path = c.before.before.before.before.before.get16.ensures i;
-      origin = c.before.before.before.before.get8.ensures i;
-      mark = c.before.before.before.get8-2.ensures i;
-      med = c.before.before.get32-2.ensures i;
-      nid = c.before.get32-3.ensures i;
+      preference = c.get32.ensures i;
+      path = c.get16.ensures i;
+      origin = c.get8.ensures i;
+      mark = c.get8-2.ensures i;
+      med = c.get32-2.ensures i;
+      nid = c.get32-3.ensures i;
       peer = c.get32-4.ensures i;
     }))

@@ -29,5 +29,5 @@ route_faults_spec =
     let last : tie.After-check = search rules in
     let chosen = kind.route_kind.ensures ∙ ap (λ (b : Bool). (route_form_by b).kind) four.four_byte.ensures in
     let order = last.check.ensures ∙ (λ i. cond (not (not (eqb s.args.k.inside 0) && late.late.ensures i)) Clear (Fault Order)) in
-    let field = c.before.check-2.ensures ∙ (λ i. cond (not (bad.route_bad-field.ensures i)) (order i) (Fault Field)) in
+    let field = c.check-2.ensures ∙ (λ i. cond (not (bad.route_bad-field.ensures i)) (order i) (Fault Field)) in
     c.check-3.ensures ∙ (λ i. cond (eqb s.args.kind (chosen i)) (field i) (Fault Field))))

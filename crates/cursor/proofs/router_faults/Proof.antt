@@ -21,11 +21,11 @@ router_faults_spec =
     (λ c κs. search rules)
     (λ c κs. search rules)
     (λ c.
-    let t = c.before.before.before in
+    let t = c.before in
     let b = t.before in
-    let s = b.before.before in
+    let s = b.before in
     let a = s.args in
     let long : a.given ≡ length (ids_at a.input.now a.first a.given) = sym (table_length a.given (λ i. id_at a.input.now (router_place a.first i))) in
-    let alone = c.before.before.check.ensures ∙ (λ i. cond (not (t.twin-alone.ensures i)) Clear (Fault Twin)) in
-    let order = c.before.check-2.ensures ∙ (λ i. cond (eqb a.index (long i)) (alone i) (Fault Order)) in
+    let alone = c.check.ensures ∙ (λ i. cond (not (t.twin-alone.ensures i)) Clear (Fault Twin)) in
+    let order = c.check-2.ensures ∙ (λ i. cond (eqb a.index (long i)) (alone i) (Fault Order)) in
     c.check-3.ensures ∙ (λ i. cond (not (leb a.routers a.index || b.id_bad.ensures i)) (order i) (Fault Field))))

@@ -22,13 +22,13 @@ twin_spec =
     invariant-loop-i
     decreases-loop-i
     (λ c. looked)
-    (λ c. let l = looked_more c.before.loop-i.invariant c.loop-i-test.true in omega arith)
-    (λ c. let l = looked_more c.before.loop-i.invariant c.loop-i-test.true in omega arith)
-    (λ c κs. let l = looked_more c.before.loop-i.invariant c.loop-i-test.true in omega arith)
-    (λ c. let turn : tie.In-loop-i invariant-loop-i decreases-loop-i = search rules in let l = looked_more turn.before.loop-i.invariant turn.loop-i-test.true in omega arith)
-    (λ c. let turn : tie.In-loop-i invariant-loop-i decreases-loop-i = search rules in let l = looked_more turn.before.loop-i.invariant turn.loop-i-test.true in omega arith)
+    (λ c. let l = looked_more c.loop-i.invariant c.loop-i-test.true in omega arith)
+    (λ c. let l = looked_more c.loop-i.invariant c.loop-i-test.true in omega arith)
+    (λ c κs. let l = looked_more c.loop-i.invariant c.loop-i-test.true in omega arith)
+    (λ c. let turn : tie.In-loop-i invariant-loop-i decreases-loop-i = search rules in let l = looked_more turn.loop-i.invariant turn.loop-i-test.true in omega arith)
+    (λ c. let turn : tie.In-loop-i invariant-loop-i decreases-loop-i = search rules in let l = looked_more turn.loop-i.invariant turn.loop-i-test.true in omega arith)
     (λ c.
     let turn : tie.In-loop-i invariant-loop-i decreases-loop-i = search rules in
     let s : tie.Start invariant-loop-i decreases-loop-i = search rules in
-    looked_on turn.before.loop-i.invariant turn.loop-i-test.true (ap (eqb s.args.id) c.id_at.ensures))
-    (λ c. looked_over c.before.loop-i.invariant c.loop-i-test.false))
+    looked_on turn.loop-i.invariant turn.loop-i-test.true (ap (eqb s.args.id) c.id_at.ensures))
+    (λ c. looked_over c.loop-i.invariant c.loop-i-test.false))

@@ -23,7 +23,7 @@ abbrev start : tie.In-Clear → tie.Start
 start c = search rules
 
 clear : (c : tie.In-Clear) → let s = start c in Clear ≡ finding (opening_checks forms s.args.input.now s.args.self.at 1 (false) (false))
-clear c = let o : tie.After-opening = search rules in sym c.enum_told-1.given.1 ∙ o.opening.ensures
+clear c = let o : tie.After-opening = search rules in sym c.in-Clear.is ∙ o.opening.ensures
 
 whole : (c : tie.In-Clear) → let s = start c in s.args.self.at + body_length forms 1 < length s.args.input.now
 whole c = let s = start c in opened forms s.args.input.now s.args.self.at 1 (false) (false) (clear c)
@@ -47,7 +47,7 @@ count_spec =
     let o : tie.After-opening = search rules in
     let bs = s.args.input.now in
     let at = s.args.self.at in
-    at_opening forms bs at (only count_form) ([]) (false) (false) (count_values) (λ f. refuses f at) (λ _. took (after s.args.self count_form) (values_at count_form bs at)) refl (no_extra _) (sym c.before.f-1.given.1 ∙ o.opening.ensures))
+    at_opening forms bs at (only count_form) ([]) (false) (false) (count_values) (λ f. refuses f at) (λ _. took (after s.args.self count_form) (values_at count_form bs at)) refl (no_extra _) (sym c.in-Fault.is ∙ o.opening.ensures))
     (λ c.
     let s : tie.Start = search rules in
     let o : tie.After-opening = search rules in
@@ -55,7 +55,7 @@ count_spec =
     let at = s.args.self.at in
     let v : tie.After-count_faults = search rules in
     let g : tie.After-get8-n = search rules in
-    at_values forms bs at (only count_form) ([]) (false) (false) (count_values) (λ f. refuses f at) (λ _. took (after s.args.self count_form) (values_at count_form bs at)) refl (no_extra _) (clear (search rules)) (sym c.before.f-in-Fault-count_faults-1.given.1 ∙ v.count_faults.ensures ∙ ap (λ (n : ℕ). finding (count_checks n)) g.get8-n.ensures))
+    at_values forms bs at (only count_form) ([]) (false) (false) (count_values) (λ f. refuses f at) (λ _. took (after s.args.self count_form) (values_at count_form bs at)) refl (no_extra _) (clear (search rules)) (sym c.in-Fault-count_faults.is ∙ v.count_faults.ensures ∙ ap (λ (n : ℕ). finding (count_checks n)) g.get8-n.ensures))
     (λ c.
     let s : tie.Start = search rules in
     let o : tie.After-opening = search rules in
@@ -64,4 +64,4 @@ count_spec =
     let v : tie.After-count_faults = search rules in
     let g : tie.After-get8-n = search rules in
     let e : tie.In-Clear-count_faults = search rules in
-    ap₂ (λ (c : Cursor) (n : ℕ). step_said (Took c n)) c.past.ensures g.get8-n.ensures ∙ at_end forms bs at (only count_form) ([]) (false) (false) (count_values) (λ f. refuses f at) (λ _. took (after s.args.self count_form) (values_at count_form bs at)) refl (no_extra _) (clear (search rules)) (sym e.enum_told-in-Clear-count_faults-1.given.1 ∙ v.count_faults.ensures ∙ ap (λ (n : ℕ). finding (count_checks n)) g.get8-n.ensures)))
+    ap₂ (λ (c : Cursor) (n : ℕ). step_said (Took c n)) c.past.ensures g.get8-n.ensures ∙ at_end forms bs at (only count_form) ([]) (false) (false) (count_values) (λ f. refuses f at) (λ _. took (after s.args.self count_form) (values_at count_form bs at)) refl (no_extra _) (clear (search rules)) (sym e.in-Clear-count_faults.is ∙ v.count_faults.ensures ∙ ap (λ (n : ℕ). finding (count_checks n)) g.get8-n.ensures)))

@@ -20,7 +20,7 @@ abbrev start : tie.In-Clear → tie.Start
 start c = search rules
 
 clear : (c : tie.In-Clear) → let s = start c in Clear ≡ finding (opening_by s.args.body s.args.input.now s.args.self.at 6 false false)
-clear c = let o : tie.After-opens = search rules in sym c.enum_told-1.given.1 ∙ o.opens.ensures
+clear c = let o : tie.After-opens = search rules in sym c.in-Clear.is ∙ o.opens.ensures
 
 whole : (c : tie.In-Clear) → let s = start c in s.args.self.at + 4 < length s.args.input.now
 whole c = let s = start c in opened_by s.args.input.now s.args.self.at 6 false false s.args.body 4 s.requires (clear c)
@@ -47,14 +47,14 @@ ends_spec =
     let bs = a.input.now in
     let at = a.self.at in
     let t : ending bs (at + 5) ≡ refuses Tail (at + 5) = ap (λ (b : Bool). cond b (refuses Tail (at + 5)) (gives [])) (lt-ltb (at + 5) (length bs) (search rules)) in
-    sym t ∙ end_number a.body a.self.records bs at (λ f. refuses f at) (λ _. ending bs (at + 5)) (clear (search rules)) (sym e.enum_told-in-Clear-end_faults-1.given.1 ∙ v.end_faults.ensures ∙ ap (λ (n : ℕ). finding (end_checks a.self.records n)) g.get32.ensures))
+    sym t ∙ end_number a.body a.self.records bs at (λ f. refuses f at) (λ _. ending bs (at + 5)) (clear (search rules)) (sym e.in-Clear-end_faults.is ∙ v.end_faults.ensures ∙ ap (λ (n : ℕ). finding (end_checks a.self.records n)) g.get32.ensures))
     (λ c.
     let s : tie.Start = search rules in
     let o : tie.After-opens = search rules in
     let a = s.args in
     let bs = a.input.now in
     let at = a.self.at in
-    end_opening a.body a.self.records bs at (λ f. refuses f at) (λ _. ending bs (at + 5)) (sym c.before.f-1.given.1 ∙ o.opens.ensures))
+    end_opening a.body a.self.records bs at (λ f. refuses f at) (λ _. ending bs (at + 5)) (sym c.in-Fault.is ∙ o.opens.ensures))
     (λ c.
     let s : tie.Start = search rules in
     let v : tie.After-end_faults = search rules in
@@ -62,7 +62,7 @@ ends_spec =
     let a = s.args in
     let bs = a.input.now in
     let at = a.self.at in
-    end_number a.body a.self.records bs at (λ f. refuses f at) (λ _. ending bs (at + 5)) (clear (search rules)) (sym c.before.f-in-Fault-end_faults-1.given.1 ∙ v.end_faults.ensures ∙ ap (λ (n : ℕ). finding (end_checks a.self.records n)) g.get32.ensures))
+    end_number a.body a.self.records bs at (λ f. refuses f at) (λ _. ending bs (at + 5)) (clear (search rules)) (sym c.in-Fault-end_faults.is ∙ v.end_faults.ensures ∙ ap (λ (n : ℕ). finding (end_checks a.self.records n)) g.get32.ensures))
     (λ c.
     let s : tie.Start = search rules in
     let v : tie.After-end_faults = search rules in
@@ -72,4 +72,4 @@ ends_spec =
     let bs = a.input.now in
     let at = a.self.at in
     let t : ending bs (at + 5) ≡ gives [] = ap (λ (b : Bool). cond b (refuses Tail (at + 5)) (gives [])) (le-ltb (at + 5) (length bs) (search rules)) in
-    sym t ∙ end_number a.body a.self.records bs at (λ f. refuses f at) (λ _. ending bs (at + 5)) (clear (search rules)) (sym e.enum_told-in-Clear-end_faults-1.given.1 ∙ v.end_faults.ensures ∙ ap (λ (n : ℕ). finding (end_checks a.self.records n)) g.get32.ensures)))
+    sym t ∙ end_number a.body a.self.records bs at (λ f. refuses f at) (λ _. ending bs (at + 5)) (clear (search rules)) (sym e.in-Clear-end_faults.is ∙ v.end_faults.ensures ∙ ap (λ (n : ℕ). finding (end_checks a.self.records n)) g.get32.ensures)))

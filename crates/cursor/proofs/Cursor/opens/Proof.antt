@@ -28,19 +28,19 @@ opens_spec =
     let s : tie.Start = search rules in
     let l : tie.Else-input-at = search rules in
     let a = s.args in
-    opening_more a.input.now a.self.at a.due a.astray a.full c.before.body-1.given.1 l.if-input-at.false)
+    opening_more a.input.now a.self.at a.due a.astray a.full c.in-Refused.is l.if-input-at.false)
     (λ c.
     let s : tie.Start = search rules in
     let l : tie.Else-input-at = search rules in
-    let n : tie.In-Bytes-2 = search rules in
+    let n : tie.In-Bytes = search rules in
     let a = s.args in
     let bs = a.input.now in
     c.check-in-Bytes-2.ensures
     ∙ ap (λ (x : Finding). cond (eqb (get_or bs a.self.at 0) a.due) x (Fault Place))
-    (c.before.check-in-Bytes.ensures
+    (c.check-in-Bytes.ensures
     ∙ ap (λ (x : Finding). cond (not a.astray) x (Fault Place))
-    (c.before.before.check.ensures
+    (c.check.ensures
     ∙ ap (λ (x : Finding). cond (not a.full) x (Fault Full))
-    (c.before.before.before.check-cut.ensures
-    ∙ ap (λ (b : Bool). cond b Clear (Fault Cut)) (room_left a.self.at n.body-in-Bytes-1.given.0.0 (length bs)))))
-    ∙ opening_more bs a.self.at a.due a.astray a.full n.body-in-Bytes-1.given.1 l.if-input-at.false))
+    (c.check-cut.ensures
+    ∙ ap (λ (b : Bool). cond b Clear (Fault Cut)) (room_left a.self.at n.in-Bytes.n (length bs)))))
+    ∙ opening_more bs a.self.at a.due a.astray a.full n.in-Bytes.is l.if-input-at.false))

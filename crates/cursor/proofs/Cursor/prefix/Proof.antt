@@ -25,7 +25,7 @@ abbrev start : tie.In-Clear → tie.Start
 start c = search rules
 
 clear : (c : tie.In-Clear) → let s = start c in Clear ≡ finding (opening_checks forms s.args.input.now s.args.self.at 4 (false) (leb most_prefixes s.args.k.prefixes))
-clear c = let o : tie.After-opening = search rules in sym c.enum_told-1.given.1 ∙ o.opening.ensures
+clear c = let o : tie.After-opening = search rules in sym c.in-Clear.is ∙ o.opening.ensures
 
 whole : (c : tie.In-Clear) → let s = start c in s.args.self.at + body_length forms 4 < length s.args.input.now
 whole c = let s = start c in opened forms s.args.input.now s.args.self.at 4 (false) (leb most_prefixes s.args.k.prefixes) (clear c)
@@ -49,7 +49,7 @@ prefix_spec =
     let bs = s.args.input.now in
     let at = s.args.self.at in
     let k = s.args.k in
-    at_opening forms bs at (only prefix_form) (prefix_room k.prefixes) (false) (leb most_prefixes k.prefixes) (λ v. prefix_faults k (get_or v 0 0) (get_or v 1 0)) (λ f. refuses f at) (λ _. took (after s.args.self prefix_form) (values_at prefix_form bs at)) refl (prefix_room_lem k _) (sym c.before.f-1.given.1 ∙ o.opening.ensures))
+    at_opening forms bs at (only prefix_form) (prefix_room k.prefixes) (false) (leb most_prefixes k.prefixes) (λ v. prefix_faults k (get_or v 0 0) (get_or v 1 0)) (λ f. refuses f at) (λ _. took (after s.args.self prefix_form) (values_at prefix_form bs at)) refl (prefix_room_lem k _) (sym c.in-Fault.is ∙ o.opening.ensures))
     (λ c.
     let s : tie.Start = search rules in
     let o : tie.After-opening = search rules in
@@ -58,7 +58,7 @@ prefix_spec =
     let v : tie.After-prefix_faults = search rules in
     let g : tie.After-network_at-p = search rules in
     let k = s.args.k in
-    at_values forms bs at (only prefix_form) (prefix_room k.prefixes) (false) (leb most_prefixes k.prefixes) (λ v. prefix_faults k (get_or v 0 0) (get_or v 1 0)) (λ f. refuses f at) (λ _. took (after s.args.self prefix_form) (values_at prefix_form bs at)) refl (prefix_room_lem k _) (clear (search rules)) (sym c.before.f-in-Fault-prefix_faults-1.given.1 ∙ v.prefix_faults.ensures ∙ ap (λ (p : Network). finding (prefix_faults k p.address p.bits)) g.network_at-p.ensures))
+    at_values forms bs at (only prefix_form) (prefix_room k.prefixes) (false) (leb most_prefixes k.prefixes) (λ v. prefix_faults k (get_or v 0 0) (get_or v 1 0)) (λ f. refuses f at) (λ _. took (after s.args.self prefix_form) (values_at prefix_form bs at)) refl (prefix_room_lem k _) (clear (search rules)) (sym c.in-Fault-prefix_faults.is ∙ v.prefix_faults.ensures ∙ ap (λ (p : Network). finding (prefix_faults k p.address p.bits)) g.network_at-p.ensures))
     (λ c.
     let s : tie.Start = search rules in
     let o : tie.After-opening = search rules in
@@ -68,4 +68,4 @@ prefix_spec =
     let g : tie.After-network_at-p = search rules in
     let e : tie.In-Clear-prefix_faults = search rules in
     let k = s.args.k in
-    ap₂ (λ (c : Cursor) (p : Network). prefix_said (Took c p)) c.past.ensures g.network_at-p.ensures ∙ at_end forms bs at (only prefix_form) (prefix_room k.prefixes) (false) (leb most_prefixes k.prefixes) (λ v. prefix_faults k (get_or v 0 0) (get_or v 1 0)) (λ f. refuses f at) (λ _. took (after s.args.self prefix_form) (values_at prefix_form bs at)) refl (prefix_room_lem k _) (clear (search rules)) (sym e.enum_told-in-Clear-prefix_faults-1.given.1 ∙ v.prefix_faults.ensures ∙ ap (λ (p : Network). finding (prefix_faults k p.address p.bits)) g.network_at-p.ensures)))
+    ap₂ (λ (c : Cursor) (p : Network). prefix_said (Took c p)) c.past.ensures g.network_at-p.ensures ∙ at_end forms bs at (only prefix_form) (prefix_room k.prefixes) (false) (leb most_prefixes k.prefixes) (λ v. prefix_faults k (get_or v 0 0) (get_or v 1 0)) (λ f. refuses f at) (λ _. took (after s.args.self prefix_form) (values_at prefix_form bs at)) refl (prefix_room_lem k _) (clear (search rules)) (sym e.in-Clear-prefix_faults.is ∙ v.prefix_faults.ensures ∙ ap (λ (p : Network). finding (prefix_faults k p.address p.bits)) g.network_at-p.ensures)))

@@ -45,7 +45,7 @@ clear : (c : tie.In-Clear) → let s : tie.Start = search rules in Clear ≡ fin
 clear c =
     let s : tie.Start = search rules in
     let o : tie.After-opening = search rules in
-    sym c.enum_told-1.given.1 ∙ o.opening.ensures
+    sym c.in-Clear.is ∙ o.opening.ensures
     ∙ ap (λ (k : ℕ). finding (opening_checks forms (bytes s) (place s) k (eqb s.args.k.prefixes 0) (full s))) (due (search rules))
 
 whole : (c : tie.In-Clear) → let s : tie.Start = search rules in s.args.self.at + size (form s) ≤ length s.args.input.now
@@ -99,13 +99,13 @@ route_spec =
     let o : tie.After-opening = search rules in
     let k = s.args.k in
     at_opening forms (bytes s) (place s) route_forms (route_room k.prefixes k.inside k.routes) (eqb k.prefixes 0) (full s) (λ v. route_faults k (route_of v)) (λ f. refuses f (place s)) (λ _. took (after s.args.self (form s)) (values_at (form s) (bytes s) (place s))) (route_long (eqb (get_or (bytes s) (place s) 0) 7)) (route_room_lem k _)
-    (sym c.before.f-1.given.1 ∙ o.opening.ensures
+    (sym c.in-Fault.is ∙ o.opening.ensures
     ∙ ap (λ (d : ℕ). finding (opening_checks forms (bytes s) (place s) d (eqb k.prefixes 0) (full s))) (due (search rules))))
     (λ c.
     let s : tie.Start = search rules in
     let k = s.args.k in
     at_values forms (bytes s) (place s) route_forms (route_room k.prefixes k.inside k.routes) (eqb k.prefixes 0) (full s) (λ v. route_faults k (route_of v)) (λ f. refuses f (place s)) (λ _. took (after s.args.self (form s)) (values_at (form s) (bytes s) (place s))) (route_long (eqb (get_or (bytes s) (place s) 0) 7)) (route_room_lem k _)
-    (clear (search rules)) (sym c.before.f-in-Fault-route_faults-1.given.1 ∙ found (search rules)))
+    (clear (search rules)) (sym c.in-Fault-route_faults.is ∙ found (search rules)))
     (λ c.
     let s : tie.Start = search rules in
     let e : tie.In-Clear-route_faults = search rules in
@@ -113,4 +113,4 @@ route_spec =
     ap₂ (λ (c : Cursor) (r : Route). route_said (Took c r)) (c.past.ensures ∙ ap (behind s.args.self) (sized (search rules))) (read (search rules))
     ∙ route_says (after s.args.self (form s)) (bytes s) (place s) (eqb (get_or (bytes s) (place s) 0) 7)
     ∙ at_end forms (bytes s) (place s) route_forms (route_room k.prefixes k.inside k.routes) (eqb k.prefixes 0) (full s) (λ v. route_faults k (route_of v)) (λ f. refuses f (place s)) (λ _. took (after s.args.self (form s)) (values_at (form s) (bytes s) (place s))) (route_long (eqb (get_or (bytes s) (place s) 0) 7)) (route_room_lem k _)
-    (clear (search rules)) (sym e.enum_told-in-Clear-route_faults-1.given.1 ∙ found (search rules))))
+    (clear (search rules)) (sym e.in-Clear-route_faults.is ∙ found (search rules))))

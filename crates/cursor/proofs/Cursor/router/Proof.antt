@@ -23,7 +23,7 @@ abbrev start : tie.In-Clear → tie.Start
 start c = search rules
 
 clear : (c : tie.In-Clear) → let s = start c in Clear ≡ finding (opening_checks forms s.args.input.now s.args.self.at 2 (false) (false))
-clear c = let o : tie.After-opening = search rules in sym c.enum_told-1.given.1 ∙ o.opening.ensures
+clear c = let o : tie.After-opening = search rules in sym c.in-Clear.is ∙ o.opening.ensures
 
 whole : (c : tie.In-Clear) → let s = start c in s.args.self.at + body_length forms 2 < length s.args.input.now
 whole c = let s = start c in opened forms s.args.input.now s.args.self.at 2 (false) (false) (clear c)
@@ -48,7 +48,7 @@ router_spec =
     let o : tie.After-opening = search rules in
     let bs = s.args.input.now in
     let at = s.args.self.at in
-    at_opening forms bs at (only router_form) ([]) (false) (false) (router_values s.args.routers (ids_at bs s.args.first s.args.given)) (λ f. refuses f at) (λ _. took (after s.args.self router_form) (get_or (values_at router_form bs at) 1 0 ∷ [])) refl (no_extra _) (sym c.before.f-1.given.1 ∙ o.opening.ensures))
+    at_opening forms bs at (only router_form) ([]) (false) (false) (router_values s.args.routers (ids_at bs s.args.first s.args.given)) (λ f. refuses f at) (λ _. took (after s.args.self router_form) (get_or (values_at router_form bs at) 1 0 ∷ [])) refl (no_extra _) (sym c.in-Fault.is ∙ o.opening.ensures))
     (λ c.
     let s : tie.Start = search rules in
     let o : tie.After-opening = search rules in
@@ -57,7 +57,7 @@ router_spec =
     let v : tie.After-router_faults = search rules in
     let g : tie.After-id_at-id = search rules in
     let h : tie.After-get8 = search rules in
-    at_values forms bs at (only router_form) ([]) (false) (false) (router_values s.args.routers (ids_at bs s.args.first s.args.given)) (λ f. refuses f at) (λ _. took (after s.args.self router_form) (get_or (values_at router_form bs at) 1 0 ∷ [])) refl (no_extra _) (clear (search rules)) (sym c.before.f-in-Fault-router_faults-1.given.1 ∙ v.router_faults.ensures ∙ ap₂ (λ (i id : ℕ). finding (router_checks s.args.routers (ids_at bs s.args.first s.args.given) i id)) h.get8.ensures g.id_at-id.ensures))
+    at_values forms bs at (only router_form) ([]) (false) (false) (router_values s.args.routers (ids_at bs s.args.first s.args.given)) (λ f. refuses f at) (λ _. took (after s.args.self router_form) (get_or (values_at router_form bs at) 1 0 ∷ [])) refl (no_extra _) (clear (search rules)) (sym c.in-Fault-router_faults.is ∙ v.router_faults.ensures ∙ ap₂ (λ (i id : ℕ). finding (router_checks s.args.routers (ids_at bs s.args.first s.args.given) i id)) h.get8.ensures g.id_at-id.ensures))
     (λ c.
     let s : tie.Start = search rules in
     let o : tie.After-opening = search rules in
@@ -67,4 +67,4 @@ router_spec =
     let g : tie.After-id_at-id = search rules in
     let h : tie.After-get8 = search rules in
     let e : tie.In-Clear-router_faults = search rules in
-    ap₂ (λ (c : Cursor) (n : ℕ). step_said (Took c n)) c.past.ensures g.id_at-id.ensures ∙ at_end forms bs at (only router_form) ([]) (false) (false) (router_values s.args.routers (ids_at bs s.args.first s.args.given)) (λ f. refuses f at) (λ _. took (after s.args.self router_form) (get_or (values_at router_form bs at) 1 0 ∷ [])) refl (no_extra _) (clear (search rules)) (sym e.enum_told-in-Clear-router_faults-1.given.1 ∙ v.router_faults.ensures ∙ ap₂ (λ (i id : ℕ). finding (router_checks s.args.routers (ids_at bs s.args.first s.args.given) i id)) h.get8.ensures g.id_at-id.ensures)))
+    ap₂ (λ (c : Cursor) (n : ℕ). step_said (Took c n)) c.past.ensures g.id_at-id.ensures ∙ at_end forms bs at (only router_form) ([]) (false) (false) (router_values s.args.routers (ids_at bs s.args.first s.args.given)) (λ f. refuses f at) (λ _. took (after s.args.self router_form) (get_or (values_at router_form bs at) 1 0 ∷ [])) refl (no_extra _) (clear (search rules)) (sym e.in-Clear-router_faults.is ∙ v.router_faults.ensures ∙ ap₂ (λ (i id : ℕ). finding (router_checks s.args.routers (ids_at bs s.args.first s.args.given) i id)) h.get8.ensures g.id_at-id.ensures)))
