@@ -1,5 +1,6 @@
 // The lines of the printed forecast, put into a lent buffer. Each call answers the place after what it put.
 #![tactic(auto)]
+
 ghost use Rattle.model.specs.Rows.{column};
 ghost use Rattle.std.specs.Prelude.{◌≡◌, ◌⊎◌, ◌++◌, ◌+◌, ◌≤◌, ◌<◌, length};
 ghost use Rattle.model.specs.Decision.{none};
