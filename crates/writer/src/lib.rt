@@ -1,5 +1,6 @@
 // Writing a snapshot from lent tables. One function for each section of the format puts its bytes and returns the next place.
 #![tactic(auto)]
+
 ghost use Rattle.std.specs.Prelude.{◌≡◌, ◌+◌, ◌*◌, ◌-◌, ◌≤◌, ◌<◌, length, T};
 ghost use Rattle.model.specs.Rows.{table, column, start};
 ghost use Rattle.snapshot.specs.Limits.{most_routers, room_distances, most_prefixes, most_routes};

@@ -9,38 +9,38 @@ use Rattle.writer.specs.SectionsLaws.{Section, section, section_room, section_ne
 use Rattle.writer.proofs.put_ids.Statement.{statement}
 use Rattle.writer.proofs.put_ids.Tie as tie
 
-abbrev invariant-loop : tie.invariant-loop
-invariant-loop n ids out₀ first at₀ k₀ out at k = Section (ids_from ids n) n (routers_bytes 0 (table n (column ids))) out₀ first k out at
+abbrev invariant-loop-k : tie.invariant-loop-k
+invariant-loop-k n ids out₀ first at₀ k₀ out at k = Section (ids_from ids n) n (routers_bytes 0 (table n (column ids))) out₀ first k out at
 
-abbrev decreases-loop : tie.decreases-loop
-decreases-loop n ids out₀ first at₀ k₀ out at k = n - k
+abbrev decreases-loop-k : tie.decreases-loop-k
+decreases-loop-k n ids out₀ first at₀ k₀ out at k = n - k
 
 pub put_ids_spec : {M : Type 1} → statement M
 put_ids_spec =
     tie.close
     (tie.spec
-    invariant-loop
-    decreases-loop
-    (λ c. let start : tie.Start invariant-loop decreases-loop = search rules in section (ids_first start.args.ids.now start.args.n) start.pre.2)
+    invariant-loop-k
+    decreases-loop-k
+    (λ c. let start : tie.Start invariant-loop-k decreases-loop-k = search rules in section (ids_first start.args.ids.now start.args.n) start.requires.2)
     (λ c. search rules)
     (λ c. search rules)
     (λ c. search rules)
     (λ c κs.
-    let start : tie.Start invariant-loop decreases-loop = search rules in
-    let turn : tie.In-loop invariant-loop decreases-loop = search rules in
-    (section_room turn.before.loop.inv turn.loop-test.taken (ids_next start.args.ids.now start.args.n turn.before.loop.k turn.loop-test.taken)).fits)
+    let start : tie.Start invariant-loop-k decreases-loop-k = search rules in
+    let turn : tie.In-loop-k invariant-loop-k decreases-loop-k = search rules in
+    (section_room turn.loop-k.invariant turn.loop-k-test.true (ids_next start.args.ids.now start.args.n turn.loop-k.k turn.loop-k-test.true)).fits)
     (λ c.
-    let start : tie.Start invariant-loop decreases-loop = search rules in
-    let turn : tie.In-loop invariant-loop decreases-loop = search rules in
-    omega (arith, section_room turn.before.loop.inv turn.loop-test.taken (ids_next start.args.ids.now start.args.n turn.before.loop.k turn.loop-test.taken)))
+    let start : tie.Start invariant-loop-k decreases-loop-k = search rules in
+    let turn : tie.In-loop-k invariant-loop-k decreases-loop-k = search rules in
+    omega (arith, section_room turn.loop-k.invariant turn.loop-k-test.true (ids_next start.args.ids.now start.args.n turn.loop-k.k turn.loop-k-test.true)))
     (λ c. search rules)
     (λ c. search rules)
     (λ c.
-    let start : tie.Start invariant-loop decreases-loop = search rules in
-    let turn : tie.In-loop invariant-loop decreases-loop = search rules in
-    let put : tie.After-put-router invariant-loop decreases-loop = search rules in
-    section_next turn.before.loop.inv turn.loop-test.taken (ids_next start.args.ids.now start.args.n turn.before.loop.k turn.loop-test.taken) put.put-router.ensures refl)
-    (λ c. section_long c.before.loop.invariant)
+    let start : tie.Start invariant-loop-k decreases-loop-k = search rules in
+    let turn : tie.In-loop-k invariant-loop-k decreases-loop-k = search rules in
+    let put : tie.After-put_router invariant-loop-k decreases-loop-k = search rules in
+    section_next turn.loop-k.invariant turn.loop-k-test.true (ids_next start.args.ids.now start.args.n turn.loop-k.k turn.loop-k-test.true) put.put_router.ensures refl)
+    (λ c. section_long c.loop-k.invariant)
     (λ c.
-    let start : tie.Start invariant-loop decreases-loop = search rules in
-    section_end c.before.loop.invariant c.loop-test.false (ids_last start.args.ids.now start.args.n)))
+    let start : tie.Start invariant-loop-k decreases-loop-k = search rules in
+    section_end c.loop-k.invariant c.loop-k-test.false (ids_last start.args.ids.now start.args.n)))

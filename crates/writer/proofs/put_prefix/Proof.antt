@@ -19,29 +19,29 @@ lent s =
     (columns s.args.router.now s.args.asn.now s.args.preference.now s.args.path.now s.args.origin.now
     s.args.mark.now s.args.med.now s.args.nid.now s.args.peer.now)
 
-add-put-routes : tie.Need-overflow-add-put-routes
+add-put-routes : tie.Need-overflow_add-first
 add-put-routes c =
     let start : tie.Start = search rules in
     let t = lent start in
     let p = start.args.p in
-    omega (arith, (space_first (written prefix_form (column t.address p ∷ column t.bits p ∷ [])) (routes_bytes (routes_at t.rows start.args.row (column t.routes p))) start.pre.3).fits, start)
+    omega (arith, (space_first (written prefix_form (column t.address p ∷ column t.bits p ∷ [])) (routes_bytes (routes_at t.rows start.args.row (column t.routes p))) start.requires.3).fits, start)
 
-put-routes-requires : tie.Need-put-routes-requires
+put-routes-requires : tie.Need-put_routes-requires
 put-routes-requires c κs =
     let start : tie.Start = search rules in
     let t = lent start in
     let p = start.args.p in
-    let one : tie.After-put-prefix = search rules in
-    (start.pre.1, start.pre.2.rows, space_then (written prefix_form (column t.address p ∷ column t.bits p ∷ [])) (routes_bytes (routes_at t.rows start.args.row (column t.routes p))) start.pre.3 (record { same = one.put-prefix.ensures; place = refl }))
+    let one : tie.After-put_prefix = search rules in
+    (start.requires.1, start.requires.2.rows, space_then (written prefix_form (column t.address p ∷ column t.bits p ∷ [])) (routes_bytes (routes_at t.rows start.args.row (column t.routes p))) start.requires.3 (record { same = one.put_prefix.ensures; place = refl }))
 
 returns : tie.Need-returns
 returns c =
     let start : tie.Start = search rules in
     let t = lent start in
     let p = start.args.p in
-    let one : tie.After-put-prefix = search rules in
-    let two : tie.After-put-routes = search rules in
-    puts_append {xs = written prefix_form (column t.address p ∷ column t.bits p ∷ [])} (record { same = one.put-prefix.ensures; place = refl }) two.put-routes.ensures
+    let one : tie.After-put_prefix = search rules in
+    let two : tie.After-put_routes = search rules in
+    puts_append {xs = written prefix_form (column t.address p ∷ column t.bits p ∷ [])} (record { same = one.put_prefix.ensures; place = refl }) two.put_routes.ensures
 
 pub put_prefix_spec : {M : Type 1} → statement M
 put_prefix_spec =

@@ -8,46 +8,46 @@ use Rattle.writer.specs.SectionsLaws.{Section, section, section_room, section_ne
 use Rattle.writer.proofs.put_row.Statement.{statement}
 use Rattle.writer.proofs.put_row.Tie as tie
 
-abbrev invariant-loop : tie.invariant-loop
-invariant-loop n distances from out₀ first at₀ to₀ out at to = Section (row_from distances n from) n (row_bytes distances n from) out₀ first to out at
+abbrev invariant-loop-to : tie.invariant-loop-to
+invariant-loop-to n distances from out₀ first at₀ to₀ out at to = Section (row_from distances n from) n (row_bytes distances n from) out₀ first to out at
 
-abbrev decreases-loop : tie.decreases-loop
-decreases-loop n distances from out₀ first at₀ to₀ out at to = n - to
+abbrev decreases-loop-to : tie.decreases-loop-to
+decreases-loop-to n distances from out₀ first at₀ to₀ out at to = n - to
 
 pub put_row_spec : {M : Type 1} → statement M
 put_row_spec =
     tie.close
     (tie.spec
-    invariant-loop
-    decreases-loop
-    (λ c. let start : tie.Start invariant-loop decreases-loop = search rules in section (row_first start.args.distances.now start.args.n start.args.from) start.pre.3)
+    invariant-loop-to
+    decreases-loop-to
+    (λ c. let start : tie.Start invariant-loop-to decreases-loop-to = search rules in section (row_first start.args.distances.now start.args.n start.args.from) start.requires.3)
     (λ c. search rules)
     (λ c. search rules)
     (λ c.
-    let start : tie.Start invariant-loop decreases-loop = search rules in
-    let turn : tie.In-loop invariant-loop decreases-loop = search rules in
-    section_next turn.before.loop.inv turn.loop-test.taken (row_equal start.args.distances.now start.args.n start.args.from turn.before.loop.to turn.loop-test.taken c.if1.true) refl (omega arith))
+    let start : tie.Start invariant-loop-to decreases-loop-to = search rules in
+    let turn : tie.In-loop-to invariant-loop-to decreases-loop-to = search rules in
+    section_next turn.loop-to.invariant turn.loop-to-test.true (row_equal start.args.distances.now start.args.n start.args.from turn.loop-to.to turn.loop-to-test.true c.if-from-to.true) refl (omega arith))
     (λ c. search rules)
     (λ c. search rules)
     (λ c. search rules)
     (λ c. search rules)
     (λ c κs.
-    let start : tie.Start invariant-loop decreases-loop = search rules in
-    let turn : tie.In-loop invariant-loop decreases-loop = search rules in
-    let past : tie.Else1 invariant-loop decreases-loop = search rules in
-    ((section_room turn.before.loop.inv turn.loop-test.taken (row_other start.args.distances.now start.args.n start.args.from turn.before.loop.to turn.loop-test.taken past.if1.left)).fits, omega arith))
+    let start : tie.Start invariant-loop-to decreases-loop-to = search rules in
+    let turn : tie.In-loop-to invariant-loop-to decreases-loop-to = search rules in
+    let past : tie.Else-from-to invariant-loop-to decreases-loop-to = search rules in
+    ((section_room turn.loop-to.invariant turn.loop-to-test.true (row_other start.args.distances.now start.args.n start.args.from turn.loop-to.to turn.loop-to-test.true past.if-from-to.false)).fits, omega arith))
     (λ c.
-    let start : tie.Start invariant-loop decreases-loop = search rules in
-    let turn : tie.In-loop invariant-loop decreases-loop = search rules in
-    let past : tie.Else1 invariant-loop decreases-loop = search rules in
-    omega (arith, section_room turn.before.loop.inv turn.loop-test.taken (row_other start.args.distances.now start.args.n start.args.from turn.before.loop.to turn.loop-test.taken past.if1.left)))
+    let start : tie.Start invariant-loop-to decreases-loop-to = search rules in
+    let turn : tie.In-loop-to invariant-loop-to decreases-loop-to = search rules in
+    let past : tie.Else-from-to invariant-loop-to decreases-loop-to = search rules in
+    omega (arith, section_room turn.loop-to.invariant turn.loop-to-test.true (row_other start.args.distances.now start.args.n start.args.from turn.loop-to.to turn.loop-to-test.true past.if-from-to.false)))
     (λ c. search rules)
     (λ c. search rules)
     (λ c.
-    let start : tie.Start invariant-loop decreases-loop = search rules in
-    let turn : tie.In-loop invariant-loop decreases-loop = search rules in
-    let past : tie.Else1 invariant-loop decreases-loop = search rules in
-    let put : tie.After-put-distance invariant-loop decreases-loop = search rules in
-    section_next turn.before.loop.inv turn.loop-test.taken (row_other start.args.distances.now start.args.n start.args.from turn.before.loop.to turn.loop-test.taken past.if1.left) put.put-distance.ensures refl)
-    (λ c. section_long c.before.loop.invariant)
-    (λ c. let start : tie.Start invariant-loop decreases-loop = search rules in section_end c.before.loop.invariant c.loop-test.false (row_last start.args.distances.now start.args.n start.args.from)))
+    let start : tie.Start invariant-loop-to decreases-loop-to = search rules in
+    let turn : tie.In-loop-to invariant-loop-to decreases-loop-to = search rules in
+    let past : tie.Else-from-to invariant-loop-to decreases-loop-to = search rules in
+    let put : tie.After-put_distance invariant-loop-to decreases-loop-to = search rules in
+    section_next turn.loop-to.invariant turn.loop-to-test.true (row_other start.args.distances.now start.args.n start.args.from turn.loop-to.to turn.loop-to-test.true past.if-from-to.false) put.put_distance.ensures refl)
+    (λ c. section_long c.loop-to.invariant)
+    (λ c. let start : tie.Start invariant-loop-to decreases-loop-to = search rules in section_end c.loop-to.invariant c.loop-to-test.false (row_last start.args.distances.now start.args.n start.args.from)))

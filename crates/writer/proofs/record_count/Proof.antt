@@ -9,9 +9,9 @@ pub record_count_spec : {M : Type 1} → statement M
 record_count_spec =
     tie.close
     (tie.spec
-    (λ c κs. let start : tie.Start = search rules in routers_range start.pre)
-    (λ c. let start : tie.Start = search rules in omega (arith, routers_range start.pre, start.pre))
-    (λ c. let start : tie.Start = search rules in omega (arith, routers_range start.pre, start.pre))
-    (λ c. let start : tie.Start = search rules in omega (arith, routers_range start.pre, start.pre))
-    (λ c. let start : tie.Start = search rules in omega (arith, routers_range start.pre, start.pre))
+    (λ c κs. let start : tie.Start = search rules in routers_range start.requires)
+    (λ c. let start : tie.Start = search rules in omega (arith, routers_range start.requires, start.requires))
+    (λ c. let start : tie.Start = search rules in omega (arith, routers_range start.requires, start.requires))
+    (λ c. let start : tie.Start = search rules in omega (arith, routers_range start.requires, start.requires))
+    (λ c. let start : tie.Start = search rules in omega (arith, routers_range start.requires, start.requires))
     (λ c. search rules))

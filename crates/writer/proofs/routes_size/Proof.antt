@@ -6,34 +6,34 @@ use Rattle.writer.specs.WritingLaws.{Summed, summed, summed_next, summed_end}
 use Rattle.writer.proofs.routes_size.Statement.{statement}
 use Rattle.writer.proofs.routes_size.Tie as tie
 
-abbrev invariant-loop : tie.invariant-loop
-invariant-loop n asn total₀ k₀ total k = Summed asn n k total
+abbrev invariant-loop-k : tie.invariant-loop-k
+invariant-loop-k n asn total₀ k₀ total k = Summed asn n k total
 
-abbrev decreases-loop : tie.decreases-loop
-decreases-loop n asn total₀ k₀ total k = n - k
+abbrev decreases-loop-k : tie.decreases-loop-k
+decreases-loop-k n asn total₀ k₀ total k = n - k
 
 pub routes_size_spec : {M : Type 1} → statement M
 routes_size_spec =
     tie.close
     (tie.spec
-    invariant-loop
-    decreases-loop
+    invariant-loop-k
+    decreases-loop-k
     (λ c. summed)
     (λ c. search rules)
     (λ c. search rules)
     (λ c κs. search rules)
     (λ c κs. search rules)
     (λ c.
-    let start : tie.Start invariant-loop decreases-loop = search rules in
-    let turn : tie.In-loop invariant-loop decreases-loop = search rules in
-    let told : tie.After-four-byte invariant-loop decreases-loop = search rules in
-    let sized : tie.After-route-size invariant-loop decreases-loop = search rules in
-    omega (arith, (summed_next turn.before.loop.inv turn.loop-test.taken told.four-byte.ensures sized.route_size_lem.ensures).most, turn.loop-test.taken, start.pre.0))
+    let start : tie.Start invariant-loop-k decreases-loop-k = search rules in
+    let turn : tie.In-loop-k invariant-loop-k decreases-loop-k = search rules in
+    let told : tie.After-four_byte invariant-loop-k decreases-loop-k = search rules in
+    let sized : tie.After-route_size-total invariant-loop-k decreases-loop-k = search rules in
+    omega (arith, (summed_next turn.loop-k.invariant turn.loop-k-test.true told.four_byte.ensures sized.route_size-total.ensures).most, turn.loop-k-test.true, start.requires.0))
     (λ c. search rules)
     (λ c. search rules)
     (λ c.
-    let turn : tie.In-loop invariant-loop decreases-loop = search rules in
-    let told : tie.After-four-byte invariant-loop decreases-loop = search rules in
-    let sized : tie.After-route-size invariant-loop decreases-loop = search rules in
-    summed_next turn.before.loop.inv turn.loop-test.taken told.four-byte.ensures sized.route_size_lem.ensures)
-    (λ c. let start : tie.Start invariant-loop decreases-loop = search rules in summed_end c.before.loop.invariant c.loop-test.false start.pre.0))
+    let turn : tie.In-loop-k invariant-loop-k decreases-loop-k = search rules in
+    let told : tie.After-four_byte invariant-loop-k decreases-loop-k = search rules in
+    let sized : tie.After-route_size-total invariant-loop-k decreases-loop-k = search rules in
+    summed_next turn.loop-k.invariant turn.loop-k-test.true told.four_byte.ensures sized.route_size-total.ensures)
+    (λ c. let start : tie.Start invariant-loop-k decreases-loop-k = search rules in summed_end c.loop-k.invariant c.loop-k-test.false start.requires.0))

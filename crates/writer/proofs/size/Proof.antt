@@ -8,7 +8,7 @@ pub size_spec : {M : Type 1} → statement M
 size_spec =
     tie.close
     (tie.spec
-    (λ c κs. let start : tie.Start = search rules in routers_range start.pre.0)
+    (λ c κs. let start : tie.Start = search rules in routers_range start.requires.0)
     (λ c. search rules)
     (λ c κs. search rules)
     (λ c. search rules)

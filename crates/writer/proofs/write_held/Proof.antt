@@ -43,23 +43,23 @@ parts : (s : tie.Start) → Parts s.args.counts (lent s)
 parts s = holding_parts (room s) s.requires.1
 
 -- places that lie far back
-abbrev start_of : tie.Else1 → tie.Start
+abbrev start_of : tie.Else-out-n → tie.Start
 start_of c = search rules
 
-abbrev judged-of : tie.After-put-network → tie.Else1
+abbrev judged-of : tie.After-put_network-at → tie.Else-out-n
 judged-of c = search rules
 
-abbrev count_of : tie.After-put-network → tie.After-record-count
+abbrev count_of : tie.After-put_network-at → tie.After-record_count-records
 count_of c = search rules
 
-abbrev first_of : tie.After-put-prefixes → tie.After-put-network
+abbrev first_of : tie.After-put_prefixes-at → tie.After-put_network-at
 first_of c = search rules
 
 -- there is room for all parts
-space : (c : tie.Else1) → Space (network (start_of c) ++ (prefixes (start_of c) ++ ending (start_of c))) (start_of c).args.out.now 0
+space : (c : tie.Else-out-n) → Space (network (start_of c) ++ (prefixes (start_of c) ++ ending (start_of c))) (start_of c).args.out.now 0
 space c =
     let s = start_of c in
-    writes_space s.args.counts (lent s) s.args.out.now s.pre.0 s.pre.1 (omega (arith, c.if1.false, c.before.size.ensures))
+    writes_space s.args.counts (lent s) s.args.out.now s.requires.0 s.requires.1 (omega (arith, c.if-out-n.false, c.size-n.ensures))
 
 pub write_held_spec : {M : Type 1} → statement M
 write_held_spec =
@@ -67,49 +67,49 @@ write_held_spec =
     (tie.spec
     (λ c κs. let start : tie.Start = search rules in ((parts start).range, (room start).prefixes.rows.asn))
     (λ c. let start : tie.Start = search rules in
-    writes_full start.args.counts (lent start) start.args.out.now start.pre.0 start.pre.1 (omega (arith, c.if1.true, c.before.size.ensures)))
+    writes_full start.args.counts (lent start) start.args.out.now start.requires.0 start.requires.1 (omega (arith, c.if-out-n.true, c.size-n.ensures)))
     (λ c κs. (parts (start_of c)).range)
     (λ c. search rules)
     (λ c κs.
-    let judged : tie.Else1 = search rules in
+    let judged : tie.Else-out-n = search rules in
     let s = start_of judged in
     (few_routers (parts s).range, (room s).ids, (room s).distances, space_first (network s) (prefixes s ++ ending s) (space judged)))
     (λ c. search rules)
     (λ c κs.
-    let one : tie.After-put-network = search rules in
+    let one : tie.After-put_network-at = search rules in
     let judged = judged-of one in
     let s = start_of judged in (
       (parts s).range.prefixes,
       omega (arith, (parts s).prefixes.1, (parts s).range.routes),
       room_alone (room s).prefixes,
-      space_first (prefixes s) (ending s) (space_then (network s) (prefixes s ++ ending s) (space judged) one.put-network.ensures),
+      space_first (prefixes s) (ending s) (space_then (network s) (prefixes s ++ ending s) (space judged) one.put_network-at.ensures),
     ))
     (λ c κs.
-    let two : tie.After-put-prefixes = search rules in
+    let two : tie.After-put_prefixes-at = search rules in
     let one = first_of two in
     let judged = judged-of one in
     let s = start_of judged in
-    (space_then (prefixes s) (ending s) (space_then (network s) (prefixes s ++ ending s) (space judged) one.put-network.ensures) two.put-prefixes.ensures).fits)
+    (space_then (prefixes s) (ending s) (space_then (network s) (prefixes s ++ ending s) (space judged) one.put_network-at.ensures) two.put_prefixes-at.ensures).fits)
     (λ c.
-    let two : tie.After-put-prefixes = search rules in
-    let three : tie.After-put-end = search rules in
+    let two : tie.After-put_prefixes-at = search rules in
+    let three : tie.After-put_end = search rules in
     let one = first_of two in
     let judged = judged-of one in
     let s = start_of judged in
     omega (
       arith,
-      (writes_done s.args.counts (lent s) s.args.out.now s.pre.0 s.pre.1 (omega (arith, judged.if1.left, judged.before.size.ensures))
-          one.put-network.ensures two.put-prefixes.ensures three.put-end.ensures (count_of one).record-count.ensures).0,
-      judged.if1.left,
-      judged.before.size.ensures,
+      (writes_done s.args.counts (lent s) s.args.out.now s.requires.0 s.requires.1 (omega (arith, judged.if-out-n.false, judged.size-n.ensures))
+          one.put_network-at.ensures two.put_prefixes-at.ensures three.put_end.ensures (count_of one).record_count-records.ensures).0,
+      judged.if-out-n.false,
+      judged.size-n.ensures,
       s,
     ))
     (λ c. search rules)
     (λ c.
-    let two : tie.After-put-prefixes = search rules in
-    let three : tie.After-put-end = search rules in
+    let two : tie.After-put_prefixes-at = search rules in
+    let three : tie.After-put_end = search rules in
     let one = first_of two in
     let judged = judged-of one in
     let s = start_of judged in
-    (writes_done s.args.counts (lent s) s.args.out.now s.pre.0 s.pre.1 (omega (arith, judged.if1.left, judged.before.size.ensures))
-    one.put-network.ensures two.put-prefixes.ensures three.put-end.ensures (count_of one).record-count.ensures).1))
+    (writes_done s.args.counts (lent s) s.args.out.now s.requires.0 s.requires.1 (omega (arith, judged.if-out-n.false, judged.size-n.ensures))
+    one.put_network-at.ensures two.put_prefixes-at.ensures three.put_end.ensures (count_of one).record_count-records.ensures).1))

@@ -19,18 +19,17 @@ lent s =
 abbrev start_of : tie.After-examine → tie.Start
 start_of c = search rules
 
-write-held-requires : tie.Need-write-held-requires
+write-held-requires : tie.Need-write_held-requires
 write-held-requires c κs =
-    let told : tie.After-enum-told = search rules in
+    let told : tie.In-Good = search rules in
     let seen : tie.After-examine = search rules in
-    verdict_good seen.examine.ensures (ap numbered told.enum_told.given.1)
+    verdict_good seen.examine.ensures (ap numbered told.in-Good.is)
 
-returns : tie.Need-returns
+returns : tie.Need-returns-in-Refused
 returns c =
     let seen : tie.After-examine = search rules in
-    let bound : tie.After-r = search rules in
     let start = start_of seen in
-    writes_no start.args.counts (lent start) start.args.out.now bound.r.given.1 seen.examine.ensures
+    writes_no start.args.counts (lent start) start.args.out.now c.in-Refused.is seen.examine.ensures
 
 pub write_snapshot_spec : {M : Type 1} → statement M
 write_snapshot_spec =
