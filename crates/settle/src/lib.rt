@@ -3,6 +3,7 @@
 // The contenders stand router after router, each router's in its own order, with their groups and MEDs in columns by place; a round is
 // two passes along these.
 #![tactic(auto)]
+
 ghost use Rattle.std.specs.Prelude.{◌≡◌, false, cond, not, ℕ, suc, min, length, replicate, eqb, ltb};
 ghost use Rattle.model.specs.Rows.{keep, table, column};
 ghost use Rattle.model.specs.Decision.{beats_by};

@@ -51,7 +51,7 @@ mul-first-spared c =
     let turn : tie.In-loop-r invariant-loop-r decreases-loop-r = search rules in
     record { fits = omega (arith, room turn, (start_of turn).requires.0.rows) }
 
-part-first-spared-end : tie.Need-slice-bounds-first-spared-end invariant-loop-r decreases-loop-r
+part-first-spared-end : tie.Need-slice_bounds-first_spared-end invariant-loop-r decreases-loop-r
 part-first-spared-end c =
     let turn : tie.In-loop-r invariant-loop-r decreases-loop-r = search rules in
     room turn
@@ -61,7 +61,7 @@ mul-first-spared-2 c =
     let turn : tie.In-loop-r invariant-loop-r decreases-loop-r = search rules in
     record { fits = omega (arith, room turn, (start_of turn).requires.0.rows) }
 
-part-first-spared-end-2 : tie.Need-slice-bounds-first-spared-end-2 invariant-loop-r decreases-loop-r
+part-first-spared-end-2 : tie.Need-slice_bounds-first_spared-end-in-loop-r invariant-loop-r decreases-loop-r
 part-first-spared-end-2 c =
     let turn : tie.In-loop-r invariant-loop-r decreases-loop-r = search rules in
     omega (arith, room turn, (start_of turn).requires.0.med_long)

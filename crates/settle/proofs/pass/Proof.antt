@@ -39,7 +39,7 @@ mul-lower c =
     let turn : tie.In-loop-r invariant-loop-r decreases-loop-r = search rules in
     record { fits = omega (arith, room turn, (start_of turn).requires.0.rows) }
 
-part-lower-end : tie.Need-slice-bounds-lower-end invariant-loop-r decreases-loop-r
+part-lower-end : tie.Need-slice_bounds-lower-end invariant-loop-r decreases-loop-r
 part-lower-end c =
     let gone : tie.After-reach invariant-loop-r decreases-loop-r = search rules in
     reached gone
@@ -49,7 +49,7 @@ mul-lower-2 c =
     let turn : tie.In-loop-r invariant-loop-r decreases-loop-r = search rules in
     record { fits = omega (arith, room turn, (start_of turn).requires.0.rows) }
 
-part-lower-end-2 : tie.Need-slice-bounds-lower-end-2 invariant-loop-r decreases-loop-r
+part-lower-end-2 : tie.Need-slice_bounds-lower-end-in-loop-r invariant-loop-r decreases-loop-r
 part-lower-end-2 c =
     let gone : tie.After-reach invariant-loop-r decreases-loop-r = search rules in
     omega (arith, reached gone, (start_of (turn-of gone)).requires.0.med_long)
