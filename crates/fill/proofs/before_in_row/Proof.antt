@@ -6,4 +6,4 @@ use Rattle.fill.proofs.before_in_row.Tie as tie
 
 pub before_in_row_spec : {M : Type 1} → statement M
 before_in_row_spec =
-    tie.close (tie.spec (λ c. simp (le-leb _ _ c.if1.true)) (λ c. search rules) (λ c. simp (lt-leb _ _ c.if1.false)))
+    tie.close (tie.spec (λ c. simp (le-leb _ _ c.if-to-from.true)) (λ c. search rules) (λ c. simp (lt-leb _ _ c.if-to-from.false)))

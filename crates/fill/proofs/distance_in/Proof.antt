@@ -15,23 +15,23 @@ pub distance_in_spec : {M : Type 1} → statement M
 distance_in_spec =
     tie.close
     (tie.spec
-    (λ c. simp (eq-eqb _ _ c.if1.true))
+    (λ c. simp (eq-eqb _ _ c.if-from-to.true))
     (λ c. search rules)
-    (λ c. let s : tie.Start = search rules in let e : tie.Else1 = search rules in let b = place_inside s.pre.0 s.args.from s.args.to s.pre.1 s.pre.2 e.if1.left in omega (arith, b.1))
+    (λ c. let s : tie.Start = search rules in let e : tie.Else-from-to = search rules in let b = place_inside s.requires.0 s.args.from s.args.to s.requires.1 s.requires.2 e.if-from-to.false in omega (arith, b.1))
     (λ c κs. search rules)
-    (λ c. let s : tie.Start = search rules in let e : tie.Else1 = search rules in let b = place_inside s.pre.0 s.args.from s.args.to s.pre.1 s.pre.2 e.if1.left in omega (arith, b.1))
-    (λ c. let s : tie.Start = search rules in let e : tie.Else1 = search rules in let b = place_inside s.pre.0 s.args.from s.args.to s.pre.1 s.pre.2 e.if1.left in omega (arith, b.1))
+    (λ c. let s : tie.Start = search rules in let e : tie.Else-from-to = search rules in let b = place_inside s.requires.0 s.args.from s.args.to s.requires.1 s.requires.2 e.if-from-to.false in omega (arith, b.1))
+    (λ c. let s : tie.Start = search rules in let e : tie.Else-from-to = search rules in let b = place_inside s.requires.0 s.args.from s.args.to s.requires.1 s.requires.2 e.if-from-to.false in omega (arith, b.1))
     (λ c. search rules)
     (λ c. search rules)
-    (λ c. let s : tie.Start = search rules in let e : tie.Else1 = search rules in let b = place_inside s.pre.0 s.args.from s.args.to s.pre.1 s.pre.2 e.if1.left in omega (arith, b.0))
-    (λ c κs. let s : tie.Start = search rules in let e : tie.Else1 = search rules in let b = place_inside s.pre.0 s.args.from s.args.to s.pre.1 s.pre.2 e.if1.left in omega (arith, b.0))
+    (λ c. let s : tie.Start = search rules in let e : tie.Else-from-to = search rules in let b = place_inside s.requires.0 s.args.from s.args.to s.requires.1 s.requires.2 e.if-from-to.false in omega (arith, b.0))
+    (λ c κs. let s : tie.Start = search rules in let e : tie.Else-from-to = search rules in let b = place_inside s.requires.0 s.args.from s.args.to s.requires.1 s.requires.2 e.if-from-to.false in omega (arith, b.0))
     (λ c.
     let s : tie.Start = search rules in
-    let e : tie.Else1 = search rules in
-    let r : tie.After-before-in-row = search rules in
+    let e : tie.Else-from-to = search rules in
+    let r : tie.After-before_in_row = search rules in
     let bs = s.args.input.now in
     let n = s.args.n in
     let from = s.args.from in
     let place : ℕ → ℕ = λ k. 7 * (from * (n - 1) + k) + (6 * n + 5) in
-    c.get32.ensures ∙ ap (λ (k : ℕ). number_at 4 bs (place k)) r.before-in-row.ensures
-    ∙ sym (ap (λ (b : Bool). cond b 0 (number_at 4 bs (place (cond (leb s.args.to from) s.args.to (s.args.to - 1))))) (ne_eqb from s.args.to e.if1.left))))
+    c.get32.ensures ∙ ap (λ (k : ℕ). number_at 4 bs (place k)) r.before_in_row.ensures
+    ∙ sym (ap (λ (b : Bool). cond b 0 (number_at 4 bs (place (cond (leb s.args.to from) s.args.to (s.args.to - 1))))) (ne_eqb from s.args.to e.if-from-to.false))))

@@ -8,33 +8,33 @@ use Rattle.fill.specs.StoresLaws.{Entries, entries_start, entries_long, entries_
 use Rattle.fill.proofs.fill_distances.Statement.{statement}
 use Rattle.fill.proofs.fill_distances.Tie as tie
 
-abbrev invariant-loop : tie.invariant-loop
-invariant-loop input n distances₀ stride₀ end k₀ distances k = Entries input n distances₀ k distances
+abbrev invariant-loop-k : tie.invariant-loop-k
+invariant-loop-k input n distances₀ stride₀ end k₀ distances k = Entries input n distances₀ k distances
 
-abbrev decreases-loop : tie.decreases-loop
-decreases-loop input n distances₀ stride₀ end k₀ distances k = n * stride - k
+abbrev decreases-loop-k : tie.decreases-loop-k
+decreases-loop-k input n distances₀ stride₀ end k₀ distances k = n * stride - k
 
 pub fill_distances_spec : {M : Type 1} → statement M
 fill_distances_spec =
     tie.close
     (tie.spec
-    invariant-loop
-    decreases-loop
+    invariant-loop-k
+    decreases-loop-k
     (λ c. search rules)
     (λ c. entries_start)
     (λ c. omega arith)
     (λ c. search rules)
     (λ c. search rules)
     (λ c. omega arith)
-    (λ c. let l : tie.In-loop invariant-loop decreases-loop = search rules in entries_skip l.before.loop.inv (omega arith) (leb-true _ _ c.if1.true))
-    (λ c κs. (search rules, omega arith, leb-false _ _ c.if1.false))
+    (λ c. let l : tie.In-loop-k invariant-loop-k decreases-loop-k = search rules in entries_skip l.loop-k.invariant (omega arith) (leb-true _ _ c.if-unused.true))
+    (λ c κs. (search rules, omega arith, leb-false _ _ c.if-unused.false))
     (λ c. search rules)
-    (λ c. let l : tie.In-loop invariant-loop decreases-loop = search rules in omega (arith, entries_long l.before.loop.inv))
+    (λ c. let l : tie.In-loop-k invariant-loop-k decreases-loop-k = search rules in omega (arith, entries_long l.loop-k.invariant))
     (λ c. omega arith)
     (λ c.
-    let l : tie.In-loop invariant-loop decreases-loop = search rules in
-    let e : tie.Else1 invariant-loop decreases-loop = search rules in
-    let d : tie.After-distance-in invariant-loop decreases-loop = search rules in
-    entries_next l.before.loop.inv (omega arith) l.loop-test.taken (leb-false _ _ e.if1.left) d.distance-in.ensures)
-    (λ c. entries_long c.before.loop.invariant)
-    (λ c. entries_end c.before.loop.invariant c.loop-test.false))
+    let l : tie.In-loop-k invariant-loop-k decreases-loop-k = search rules in
+    let e : tie.Else-unused invariant-loop-k decreases-loop-k = search rules in
+    let d : tie.After-distance_in invariant-loop-k decreases-loop-k = search rules in
+    entries_next l.loop-k.invariant (omega arith) l.loop-k-test.true (leb-false _ _ e.if-unused.false) d.distance_in.ensures)
+    (λ c. entries_long c.loop-k.invariant)
+    (λ c. entries_end c.loop-k.invariant c.loop-k-test.false))

@@ -19,13 +19,13 @@ is_route_spec =
     (λ c κs. search rules)
     (λ c.
     let s : tie.Start = search rules in
-    let z : tie.After-route-size = search rules in
-    omega (arith, s.pre.0, z.route_size_lem.ensures, route_most (eqb s.args.kind 7)))
+    let z : tie.After-route_size-size = search rules in
+    omega (arith, s.requires.0, z.route_size-size.ensures, route_most (eqb s.args.kind 7)))
     (λ c.
     let s : tie.Start = search rules in
-    let z : tie.After-route-size = search rules in
-    let r : tie.After-route-stands = search rules in
+    let z : tie.After-route_size-size = search rules in
+    let r : tie.After-route_stands = search rules in
     let at = s.args.at in
     let bs = s.args.input.now in
-    ap₂ (λ (b : Bool) (n : ℕ). b && leb (at + n) (length bs)) r.route-stands.ensures z.route_size_lem.ensures
-    ∙ ap (λ (x : ℕ). stands route_forms x && leb (at + size (form_of route_forms x)) (length bs)) s.pre.1))
+    ap₂ (λ (b : Bool) (n : ℕ). b && leb (at + n) (length bs)) r.route_stands.ensures z.route_size-size.ensures
+    ∙ ap (λ (x : ℕ). stands route_forms x && leb (at + size (form_of route_forms x)) (length bs)) s.requires.1))

@@ -8,32 +8,32 @@ use Rattle.scan.specs.ScanLaws.{rows_start, rows_end}
 use Rattle.scan.proofs.distances.Statement.{statement}
 use Rattle.scan.proofs.distances.Tie as tie
 
-abbrev invariant-loop : tie.invariant-loop
-invariant-loop input n c₀ from₀ c from = Rows input n from c
+abbrev invariant-loop-from : tie.invariant-loop-from
+invariant-loop-from input n c₀ from₀ c from = Rows input n from c
 
-abbrev decreases-loop : tie.decreases-loop
-decreases-loop input n c₀ from₀ c from = n - from
+abbrev decreases-loop-from : tie.decreases-loop-from
+decreases-loop-from input n c₀ from₀ c from = n - from
 
 pub distances_spec : {M : Type 1} → statement M
 distances_spec =
     tie.close
     (tie.spec
-    invariant-loop
-    decreases-loop
+    invariant-loop-from
+    decreases-loop-from
     (λ c. search rows_start)
-    (λ c κs. let l : tie.In-loop invariant-loop decreases-loop = search rules in (l.loop-test.taken, l.before.loop.inv))
+    (λ c κs. let l : tie.In-loop-from invariant-loop-from decreases-loop-from = search rules in (l.loop-from-test.true, l.loop-from.invariant))
     (λ c. search rules)
     (λ c.
-    let s : tie.Start invariant-loop decreases-loop = search rules in
-    let l : tie.In-loop invariant-loop decreases-loop = search rules in
-    let t : tie.After-row invariant-loop decreases-loop = search rules in
-    subst (Went s.args.input.now (Rows s.args.input.now s.args.n (l.before.loop.from + 1))) c.before.r.given.1 t.row.ensures)
+    let s : tie.Start invariant-loop-from decreases-loop-from = search rules in
+    let l : tie.In-loop-from invariant-loop-from decreases-loop-from = search rules in
+    let t : tie.After-row invariant-loop-from decreases-loop-from = search rules in
+    subst (Went s.args.input.now (Rows s.args.input.now s.args.n (l.loop-from.from + 1))) c.in-Refused.is t.row.ensures)
     (λ c. search rules)
     (λ c. search rules)
     (λ c. omega arith)
     (λ c.
-    let s : tie.Start invariant-loop decreases-loop = search rules in
-    let l : tie.In-loop invariant-loop decreases-loop = search rules in
-    let t : tie.After-row invariant-loop decreases-loop = search rules in
-    subst (Went s.args.input.now (Rows s.args.input.now s.args.n (l.before.loop.from + 1))) c.before.next.given.1 t.row.ensures)
-    (λ c. rows_end c.before.loop.invariant c.loop-test.false))
+    let s : tie.Start invariant-loop-from decreases-loop-from = search rules in
+    let l : tie.In-loop-from invariant-loop-from decreases-loop-from = search rules in
+    let t : tie.After-row invariant-loop-from decreases-loop-from = search rules in
+    subst (Went s.args.input.now (Rows s.args.input.now s.args.n (l.loop-from.from + 1))) c.in-Done.is t.row.ensures)
+    (λ c. rows_end c.loop-from.invariant c.loop-from-test.false))

@@ -14,8 +14,8 @@ finish_spec =
     (λ c.
     let s : tie.Start = search rules in
     let e : tie.After-end = search rules in
-    end_answer s.pre.0 s.pre.1 s.pre.2 c.before.r.given.1 e.end.ensures)
+    end_answer s.requires.0 s.requires.1 s.requires.2 c.in-Refused.is e.end.ensures)
     (λ c.
     let s : tie.Start = search rules in
     let e : tie.After-end = search rules in
-    end_answer s.pre.0 s.pre.1 s.pre.2 c.enum_told.given.1 e.end.ensures))
+    end_answer s.requires.0 s.requires.1 s.requires.2 c.in-Ended.is e.end.ensures))

@@ -20,35 +20,35 @@ judge_spec =
     (λ c κs.
     let s : tie.Start = search rules in
     let t : tie.After-count = search rules in
-    count_next s.args.input.now c.before.c.given.1 t.count.ensures)
+    count_next s.args.input.now c.in-Took.is t.count.ensures)
     (λ c. search rules)
     (λ c. search rules)
     (λ c κs.
     let s : tie.Start = search rules in
-    let n : tie.After-c = search rules in
+    let n : tie.In-Took = search rules in
     let t : tie.After-routers = search rules in
-    subst (Went s.args.input.now (Distances s.args.input.now n.c.given.0.1.0 (pairs n.c.given.0.1.0))) c.before.c2.given.1 t.routers.ensures)
+    subst (Went s.args.input.now (Distances s.args.input.now n.in-Took.n (pairs n.in-Took.n))) c.in-Done.is t.routers.ensures)
     (λ c. search rules)
     (λ c. search rules)
     (λ c κs.
     let s : tie.Start = search rules in
-    let n : tie.After-c = search rules in
+    let n : tie.In-Took = search rules in
     let t : tie.After-distances = search rules in
-    items_start (subst (Went s.args.input.now (Distances s.args.input.now n.c.given.0.1.0 [])) c.before.c3.given.1 t.distances.ensures))
+    items_start (subst (Went s.args.input.now (Distances s.args.input.now n.in-Took.n [])) c.in-Done-distances.is t.distances.ensures))
     (λ c.
     let s : tie.Start = search rules in
     let t : tie.After-count = search rules in
-    sym (ap said_of (count_stop s.args.input.now c.before.r.given.1 t.count.ensures)))
+    sym (ap said_of (count_stop s.args.input.now c.in-Refused.is t.count.ensures)))
     (λ c.
     let s : tie.Start = search rules in
-    let n : tie.After-c = search rules in
+    let n : tie.In-Took = search rules in
     let t : tie.After-routers = search rules in
-    sym (ap said_of (subst (Went s.args.input.now (Distances s.args.input.now n.c.given.0.1.0 (pairs n.c.given.0.1.0))) c.before.r2.given.1 t.routers.ensures)))
+    sym (ap said_of (subst (Went s.args.input.now (Distances s.args.input.now n.in-Took.n (pairs n.in-Took.n))) c.in-Refused-routers.is t.routers.ensures)))
     (λ c.
     let s : tie.Start = search rules in
-    let n : tie.After-c = search rules in
+    let n : tie.In-Took = search rules in
     let t : tie.After-distances = search rules in
-    sym (ap said_of (subst (Went s.args.input.now (Distances s.args.input.now n.c.given.0.1.0 [])) c.before.r3.given.1 t.distances.ensures)))
+    sym (ap said_of (subst (Went s.args.input.now (Distances s.args.input.now n.in-Took.n [])) c.in-Refused-distances.is t.distances.ensures)))
     (λ c.
     let s : tie.Start = search rules in
     let t : tie.After-items = search rules in

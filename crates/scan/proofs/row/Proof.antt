@@ -7,34 +7,34 @@ use Rattle.scan.specs.ScanLaws.{row_start, row_skip, row_stop, row_next, row_end
 use Rattle.scan.proofs.row.Statement.{statement}
 use Rattle.scan.proofs.row.Tie as tie
 
-abbrev invariant-loop : tie.invariant-loop
-invariant-loop input n from c₀ to₀ c to = Row input n from to c
+abbrev invariant-loop-to : tie.invariant-loop-to
+invariant-loop-to input n from c₀ to₀ c to = Row input n from to c
 
-abbrev decreases-loop : tie.decreases-loop
-decreases-loop input n from c₀ to₀ c to = n - to
+abbrev decreases-loop-to : tie.decreases-loop-to
+decreases-loop-to input n from c₀ to₀ c to = n - to
 
 pub row_spec : {M : Type 1} → statement M
 row_spec =
     tie.close
     (tie.spec
-    invariant-loop
-    decreases-loop
-    (λ c. let s : tie.Start invariant-loop decreases-loop = search rules in row_start s.pre.1 s.pre.0)
+    invariant-loop-to
+    decreases-loop-to
+    (λ c. let s : tie.Start invariant-loop-to decreases-loop-to = search rules in row_start s.requires.1 s.requires.0)
     (λ c. omega arith)
     (λ c. omega arith)
-    (λ c. let l : tie.In-loop invariant-loop decreases-loop = search rules in row_skip l.before.loop.inv l.loop-test.taken c.if1.true)
-    (λ c κs. let l : tie.In-loop invariant-loop decreases-loop = search rules in l.before.loop.inv.left.low)
+    (λ c. let l : tie.In-loop-to invariant-loop-to decreases-loop-to = search rules in row_skip l.loop-to.invariant l.loop-to-test.true c.if-from-to.true)
+    (λ c κs. let l : tie.In-loop-to invariant-loop-to decreases-loop-to = search rules in l.loop-to.invariant.left.low)
     (λ c. search rules)
     (λ c.
-    let l : tie.In-loop invariant-loop decreases-loop = search rules in
-    let o : tie.Else1 invariant-loop decreases-loop = search rules in
-    let t : tie.After-distance invariant-loop decreases-loop = search rules in
-    row_stop l.before.loop.inv l.loop-test.taken o.if1.left c.before.r.given.1 t.distance.ensures)
+    let l : tie.In-loop-to invariant-loop-to decreases-loop-to = search rules in
+    let o : tie.Else-from-to invariant-loop-to decreases-loop-to = search rules in
+    let t : tie.After-distance invariant-loop-to decreases-loop-to = search rules in
+    row_stop l.loop-to.invariant l.loop-to-test.true o.if-from-to.false c.in-Refused.is t.distance.ensures)
     (λ c. search rules)
     (λ c. omega arith)
     (λ c.
-    let l : tie.In-loop invariant-loop decreases-loop = search rules in
-    let o : tie.Else1 invariant-loop decreases-loop = search rules in
-    let t : tie.After-distance invariant-loop decreases-loop = search rules in
-    row_next l.before.loop.inv l.loop-test.taken o.if1.left c.before.next.given.1 t.distance.ensures)
-    (λ c. row_end c.before.loop.invariant c.loop-test.false))
+    let l : tie.In-loop-to invariant-loop-to decreases-loop-to = search rules in
+    let o : tie.Else-from-to invariant-loop-to decreases-loop-to = search rules in
+    let t : tie.After-distance invariant-loop-to decreases-loop-to = search rules in
+    row_next l.loop-to.invariant l.loop-to-test.true o.if-from-to.false c.in-Took.is t.distance.ensures)
+    (λ c. row_end c.loop-to.invariant c.loop-to-test.false))
