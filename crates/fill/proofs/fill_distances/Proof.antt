@@ -26,8 +26,8 @@ fill_distances_spec =
     (λ c. search rules)
     (λ c. search rules)
     (λ c. omega arith)
-    (λ c. let l : tie.In-loop-k invariant-loop-k decreases-loop-k = search rules in entries_skip l.loop-k.invariant (omega arith) (leb-true _ _ c.if-unused.true))
-    (λ c κs. (search rules, omega arith, leb-false _ _ c.if-unused.false))
+    (λ c. let l : tie.In-loop-k invariant-loop-k decreases-loop-k = search rules in entries_skip l.loop-k.invariant (omega arith) c.if-unused.true)
+    (λ c κs. (search rules, omega arith, c.if-unused.false))
     (λ c. search rules)
     (λ c. let l : tie.In-loop-k invariant-loop-k decreases-loop-k = search rules in omega (arith, entries_long l.loop-k.invariant))
     (λ c. omega arith)
@@ -35,6 +35,6 @@ fill_distances_spec =
     let l : tie.In-loop-k invariant-loop-k decreases-loop-k = search rules in
     let e : tie.Else-unused invariant-loop-k decreases-loop-k = search rules in
     let d : tie.After-distance_in invariant-loop-k decreases-loop-k = search rules in
-    entries_next l.loop-k.invariant (omega arith) l.loop-k-test.true (leb-false _ _ e.if-unused.false) d.distance_in.ensures)
+    entries_next l.loop-k.invariant (omega arith) l.loop-k-test.true e.if-unused.false d.distance_in.ensures)
     (λ c. entries_long c.loop-k.invariant)
     (λ c. entries_end c.loop-k.invariant c.loop-k-test.false))
