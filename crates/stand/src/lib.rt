@@ -1,5 +1,6 @@
 // The rows of its own at which each router stands when the contest of a prefix comes to rest, early and late, over lent columns.
 #![tactic(auto)]
+
 ghost use Rattle.std.specs.Prelude.{◌≡◌, ℕ, ◌≤◌, ◌<◌, true, false, length, get_or};
 ghost use Rattle.model.specs.Rows.{table, column, start};
 ghost use Rattle.model.specs.Decision.{none};

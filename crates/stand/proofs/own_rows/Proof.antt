@@ -17,16 +17,16 @@ use Rattle.stand.proofs.own_rows.Statement.{statement}
 use Rattle.stand.proofs.own_rows.Tie as tie
 
 -- places, each by the one after it
-abbrev start_of : tie.After-contenders → tie.Start
+abbrev start_of : tie.After-contenders-m → tie.Start
 start_of c = search rules
 
-abbrev listed_of : tie.After-rest-rows → tie.After-contenders
+abbrev listed_of : tie.After-rest_rows → tie.After-contenders-m
 listed_of c = search rules
 
-abbrev unplaced-of : tie.After-contenders → tie.After-unplaced
+abbrev unplaced-of : tie.After-contenders-m → tie.After-unplaced-ends
 unplaced-of c = search rules
 
-module _ (c : tie.After-contenders) where
+module _ (c : tie.After-contenders-m) where
   abbrev start : tie.Start
   start = start_of c
 
@@ -39,31 +39,31 @@ module _ (c : tie.After-contenders) where
   routers = length start.args.early.now
 
   fits : Fits routers t
-  fits = start.pre.0
+  fits = start.requires.0
 
   -- there is room for a count of each router
-  counts-long : length (take routers (unplaced-of c).unplaced.result) ≡ routers
-  counts-long = length-take-le routers (unplaced-of c).unplaced.result (omega (arith, fits.few, ap length (unplaced-of c).unplaced.ensures, length-replicate most_routers past_keys))
+  counts-long : length (take routers (unplaced-of c).unplaced-ends.result) ≡ routers
+  counts-long = length-take-le routers (unplaced-of c).unplaced-ends.result (omega (arith, fits.few, ap length (unplaced-of c).unplaced-ends.ensures, length-replicate most_routers past_keys))
 
   abbrev m : ℕ
-  m = c.contenders.result
+  m = c.contenders-m.result
 
   -- the list with the contenders at its front
   abbrev order : List ℕ → List ℕ
-  order rest = c.contenders.new.1.1.1.1.1.1.1.1.1.1.0 ++ rest
+  order rest = c.contenders-m.new.order ++ rest
 
   front : (rest : List ℕ) → Front m (order rest) (contenders_in routers t)
-  front rest = front_wider rest (front_is (packed_front c.contenders.ensures.order_has) (ap (λ (n : ℕ). contenders_in n t) counts-long))
+  front rest = front_wider rest (front_is (packed_front c.contenders-m.ensures.order_has) (ap (λ (n : ℕ). contenders_in n t) counts-long))
 
   few : m ≤ most_rows
   few = omega (arith, ap length (front []).are, front_long (front []), contenders_few routers t fits)
 
   -- the routers' counts after it
   abbrev ends : List ℕ → List ℕ
-  ends rest = c.contenders.new.1.1.1.1.1.1.1.1.0 ++ rest
+  ends rest = c.contenders-m.new.counts ++ rest
 
   ends-room : (rest : List ℕ) → routers ≤ length (ends rest)
-  ends-room rest = omega (arith, length-append c.contenders.new.1.1.1.1.1.1.1.1.0 rest, c.contenders.auto.1.1.1.1.1.1.1.1.0, counts-long)
+  ends-room rest = omega (arith, length-append c.contenders-m.new.counts rest, c.contenders-m.auto.counts, counts-long)
 
   ends-long : (rest : List ℕ) → length (take routers (ends rest)) ≡ routers
   ends-long rest = length-take-le routers (ends rest) (ends-room rest)
@@ -86,59 +86,59 @@ module _ (c : tie.After-contenders) where
       → rest_in late (length (take routers (ends more))) t.router t.asn t.med (take m (order rest)) ≡ rest_in late routers t.router t.asn t.med (contenders_in routers t)
   rest_is late rest more = ap₂ (λ (n : ℕ) (xs : List ℕ). rest_in late n t.router t.asn t.med xs) (ends-long more) (front rest).are
 
-contenders-requires : tie.Need-contenders-requires
+contenders-requires : tie.Need-contenders-m-requires
 contenders-requires c κs =
     let entry : tie.Start = search rules in
-    let fit = entry.pre.0 in
-    let placed : tie.After-unplaced = search rules in
-    let long : length (take (length entry.args.early.now) placed.unplaced.result) ≡ length entry.args.early.now =
-    length-take-le (length entry.args.early.now) placed.unplaced.result (omega (arith, fit.few, ap length placed.unplaced.ensures, length-replicate most_routers past_keys)) in
+    let fit = entry.requires.0 in
+    let placed : tie.After-unplaced-ends = search rules in
+    let long : length (take (length entry.args.early.now) placed.unplaced-ends.result) ≡ length entry.args.early.now =
+    length-take-le (length entry.args.early.now) placed.unplaced-ends.result (omega (arith, fit.few, ap length placed.unplaced-ends.ensures, length-replicate most_routers past_keys)) in
     (subst (λ (n : ℕ). Fits n (columns entry.args.router.now entry.args.asn.now entry.args.preference.now entry.args.path.now entry.args.origin.now entry.args.med.now entry.args.nid.now entry.args.peer.now)) (sym long) fit, (simp length-take (omega (arith, fit.rows)), simp length-take (omega (arith, fit.rows))))
 
-array-share-prefix-order : tie.Need-array-share-prefix-order
-array-share-prefix-order c = let listed : tie.After-contenders = search rules in (front listed _).few
+array-share-prefix-order : tie.Need-slice_bounds-order-end-2
+array-share-prefix-order c = let listed : tie.After-contenders-m = search rules in (front listed _).few
 
-slice-aggregate-rest-rows : tie.Need-slice-aggregate-rest-rows
-slice-aggregate-rest-rows c = let listed : tie.After-contenders = search rules in front_long (front listed _)
+slice-aggregate-rest-rows : tie.Need-slice_bounds-rest_rows-end
+slice-aggregate-rest-rows c = let listed : tie.After-contenders-m = search rules in front_long (front listed _)
 
-slice-aggregate-rest-rows-2 : tie.Need-slice-aggregate-rest-rows-2
-slice-aggregate-rest-rows-2 c = let listed : tie.After-contenders = search rules in simp length-take (omega (arith, few listed))
+slice-aggregate-rest-rows-2 : tie.Need-slice_bounds-rest_rows-end-2
+slice-aggregate-rest-rows-2 c = let listed : tie.After-contenders-m = search rules in simp length-take (omega (arith, few listed))
 
-array-borrow-prefix-meds : tie.Need-array-borrow-prefix-meds
-array-borrow-prefix-meds c = let listed : tie.After-contenders = search rules in omega (arith, few listed)
+array-borrow-prefix-meds : tie.Need-slice_bounds-meds-end
+array-borrow-prefix-meds c = let listed : tie.After-contenders-m = search rules in omega (arith, few listed)
 
-slice-aggregate-rest-rows-3 : tie.Need-slice-aggregate-rest-rows-3
-slice-aggregate-rest-rows-3 c = let listed : tie.After-contenders = search rules in simp length-take (omega (arith, few listed))
+slice-aggregate-rest-rows-3 : tie.Need-slice_bounds-rest_rows-end-3
+slice-aggregate-rest-rows-3 c = let listed : tie.After-contenders-m = search rules in simp length-take (omega (arith, few listed))
 
-array-borrow-prefix-group : tie.Need-array-borrow-prefix-group
-array-borrow-prefix-group c = let listed : tie.After-contenders = search rules in omega (arith, few listed)
+array-borrow-prefix-group : tie.Need-slice_bounds-group-end
+array-borrow-prefix-group c = let listed : tie.After-contenders-m = search rules in omega (arith, few listed)
 
-array-borrow-prefix-ends-2 : tie.Need-array-borrow-prefix-ends-2
-array-borrow-prefix-ends-2 c = let listed : tie.After-contenders = search rules in ends-room listed _
+array-borrow-prefix-ends-2 : tie.Need-slice_bounds-ends-end-2
+array-borrow-prefix-ends-2 c = let listed : tie.After-contenders-m = search rules in ends-room listed _
 
-slice-aggregate-rest-rows-4 : tie.Need-slice-aggregate-rest-rows-4
-slice-aggregate-rest-rows-4 c = let listed : tie.After-contenders = search rules in sym (ends-long listed _)
+slice-aggregate-rest-rows-4 : tie.Need-slice_bounds-rest_rows-end-4
+slice-aggregate-rest-rows-4 c = let listed : tie.After-contenders-m = search rules in sym (ends-long listed _)
 
-rest-rows-requires : tie.Need-rest-rows-requires
+rest-rows-requires : tie.Need-rest_rows-requires
 rest-rows-requires c κs =
-    let listed : tie.After-contenders = search rules in
+    let listed : tie.After-contenders-m = search rules in
     let fit = fits listed in
-    let first : tie.After-past = search rules in
-    let second : tie.After-past2 = search rules in (
+    let first : tie.After-past-meds = search rules in
+    let second : tie.After-past-group = search rules in (
       (front_inside (front listed _) (contenders_inside (routers listed) (t listed) fit), fit.asn, fit.med, owned-here listed _),
       (
-        (part-long listed _ first.past.ensures, part-long listed _ second.past2.ensures, sym (ends-long listed _), (start listed).pre.1 ∙ sym (ends-long listed _)),
+        (part-long listed _ first.past-meds.ensures, part-long listed _ second.past-group.ensures, sym (ends-long listed _), (start listed).requires.1 ∙ sym (ends-long listed _)),
         ready-here listed _ _,
       ),
     )
 
 returns : tie.Need-returns
 returns c =
-    let done : tie.After-rest-rows = search rules in
+    let done : tie.After-rest_rows = search rules in
     let listed = listed_of done in
     record {
-      early_rows = done.rest-rows.ensures.0 ∙ rest_is listed false _ _ ∙ rest_early (routers listed) (t listed) (fits listed);
-      late_rows = done.rest-rows.ensures.1 ∙ rest_is listed true _ _ ∙ rest_late (routers listed) (t listed) (fits listed);
+      early_rows = done.rest_rows.ensures.0 ∙ rest_is listed false _ _ ∙ rest_early (routers listed) (t listed) (fits listed);
+      late_rows = done.rest_rows.ensures.1 ∙ rest_is listed true _ _ ∙ rest_late (routers listed) (t listed) (fits listed);
     }
 
 pub own_rows_spec : {M : Type 1} → statement M

@@ -5,10 +5,10 @@ use borrow.Author.Rules.{rules}
 use Rattle.stand.proofs.rest.Statement.{statement}
 use Rattle.stand.proofs.rest.Tie as tie
 
-rest-in-requires : tie.Need-rest-in-requires
+rest-in-requires : tie.Need-rest_in-requires
 rest-in-requires c κs =
     let start : tie.Start = search rules in
-    (start.pre.0, (start.pre.1.0, simp length-take (omega (arith, start.pre.0.few)), start.pre.1.1))
+    (start.requires.0, (start.requires.1.0, simp length-take (omega (arith, start.requires.0.few)), start.requires.1.1))
 
 pub rest_spec : {M : Type 1} → statement M
 rest_spec =

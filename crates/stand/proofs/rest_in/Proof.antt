@@ -10,18 +10,18 @@ use Rattle.model.specs.Listing.{stands_at}
 use Rattle.stand.proofs.rest_in.Statement.{statement}
 use Rattle.stand.proofs.rest_in.Tie as tie
 
-rows-at-requires : tie.Need-rows-at-requires
+rows-at-requires : tie.Need-rows_at-requires
 rows-at-requires c κs =
     let start : tie.Start = search rules in
     let led : tie.After-settled = search rules in
-    let ready = start.pre.0 in
-    (omega (arith, ready.rows, start.pre.1.0), ready.whole ∙ sym start.pre.1.0, led.settled.kept.1.1.1.1.0 ∙ start.pre.1.1, start.pre.1.2)
+    let ready = start.requires.0 in
+    (omega (arith, ready.rows, start.requires.1.0), ready.whole ∙ sym start.requires.1.0, led.settled.auto.state ∙ start.requires.1.1, start.requires.1.2)
 
 returns : tie.Need-returns
 returns c =
     let start : tie.Start = search rules in
     let led : tie.After-settled = search rules in
-    let done : tie.After-rows-at = search rules in
+    let done : tie.After-rows_at = search rules in
     let a = start.args in
     done.rows_at.ensures ∙ ap (λ (x : List ℕ). table (length a.ends.now) (stands_at a.order.now a.ends.now x)) led.settled.ensures
 

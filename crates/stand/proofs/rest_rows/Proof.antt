@@ -26,7 +26,7 @@ meds-of c = search rules
 abbrev grouped-of : tie.After-rest → tie.After-groups
 grouped-of c = search rules
 
-abbrev first_of : tie.After-rest2 → tie.After-rest
+abbrev first_of : tie.After-rest-2 → tie.After-rest
 first_of c = search rules
 
 -- the lists by place are those of the contenders
@@ -38,13 +38,13 @@ module _ (c : tie.After-groups) where
   order = begun.args.order.now
 
   abbrev ends : List ℕ
-  ends = (ended_of (meds-of c)).ends.new.1.1.0
+  ends = (ended_of (meds-of c)).ends.new.ends
 
   abbrev meds : List ℕ
-  meds = (meds-of c).gather.new.1.1.0
+  meds = (meds-of c).gather.new.out
 
   abbrev group : List ℕ
-  group = c.groups.new.1.1.0
+  group = c.groups.new.group
 
   ends-are : ends ≡ counts_in begun.args.router.now (length begun.args.ends.now) order
   ends-are = (ended_of (meds-of c)).ends.ensures
@@ -60,13 +60,13 @@ module _ (c : tie.After-groups) where
       subst (λ (e : List ℕ). Ready group meds e) (sym ends-are)
       (subst (λ (m : List ℕ). Ready group m (counts_in begun.args.router.now (length begun.args.ends.now) order)) (sym meds-are)
       (subst (λ (g : List ℕ). Ready g (gathered begun.args.med.now order) (counts_in begun.args.router.now (length begun.args.ends.now) order)) (sym group-is)
-      begun.pre.1.1))
+      begun.requires.1.1))
 
   group-long : length order ≡ length group
   group-long = sym (ap length group-is ∙ table_length (length order) (group_by (λ k. column begun.args.asn.now (column order k))))
 
   ends-long : length ends ≡ length begun.args.ends.now
-  ends-long = (ended_of (meds-of c)).ends.auto.1.1.0
+  ends-long = (ended_of (meds-of c)).ends.auto.ends
 
   rest_is : (late : Bool) → table (length ends) (stands_at order ends (settled_by late group meds ends)) ≡ rest_in late (length begun.args.ends.now) begun.args.router.now begun.args.asn.now begun.args.med.now order
   rest_is late =
@@ -77,39 +77,39 @@ module _ (c : tie.After-groups) where
 ends-requires : tie.Need-ends-requires
 ends-requires c κs =
     let start : tie.Start = search rules in
-    let ready = start.pre.1.1 in
+    let ready = start.requires.1.1 in
     let order = start.args.order.now in
-    (start.pre.0.0, omega (arith, ready.rows, table_length (length order) (group_by (λ k. column start.args.asn.now (column order k)))), start.pre.0.3)
+    (start.requires.0.0, omega (arith, ready.rows, table_length (length order) (group_by (λ k. column start.args.asn.now (column order k)))), start.requires.0.3)
 
 gather-requires : tie.Need-gather-requires
 gather-requires c κs =
     let start : tie.Start = search rules in
-    (inside_long start.pre.0.0 start.pre.0.2, start.pre.1.0.0)
+    (inside_long start.requires.0.0 start.requires.0.2, start.requires.1.0.0)
 
 groups-requires : tie.Need-groups-requires
 groups-requires c κs =
     let start : tie.Start = search rules in
-    let ready = start.pre.1.1 in
+    let ready = start.requires.1.1 in
     let order = start.args.order.now in
-    (inside_long start.pre.0.0 start.pre.0.1, omega (arith, ready.rows, table_length (length order) (group_by (λ k. column start.args.asn.now (column order k)))), start.pre.1.0.1)
+    (inside_long start.requires.0.0 start.requires.0.1, omega (arith, ready.rows, table_length (length order) (group_by (λ k. column start.args.asn.now (column order k)))), start.requires.1.0.1)
 
 rest-requires : tie.Need-rest-requires
 rest-requires c κs =
     let grouped : tie.After-groups = search rules in
-    (ready-here grouped, (group-long grouped, (begun grouped).pre.1.0.2 ∙ sym (ends-long grouped)))
+    (ready-here grouped, (group-long grouped, (begun grouped).requires.1.0.2 ∙ sym (ends-long grouped)))
 
 rest-requires-2 : tie.Need-rest-requires-2
 rest-requires-2 c κs =
     let first : tie.After-rest = search rules in
     let grouped = grouped-of first in
-    (ready-here grouped, (group-long grouped, (begun grouped).pre.1.0.3 ∙ sym (ends-long grouped)))
+    (ready-here grouped, (group-long grouped, (begun grouped).requires.1.0.3 ∙ sym (ends-long grouped)))
 
 returns : tie.Need-returns
 returns c =
-    let second : tie.After-rest2 = search rules in
+    let second : tie.After-rest-2 = search rules in
     let first = first_of second in
     let grouped = grouped-of first in
-    (first.rest.ensures ∙ rest_is grouped false, second.rest2.ensures ∙ rest_is grouped true)
+    (first.rest.ensures ∙ rest_is grouped false, second.rest-2.ensures ∙ rest_is grouped true)
 
 pub rest_rows_spec : {M : Type 1} → statement M
 rest_rows_spec =
