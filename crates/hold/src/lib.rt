@@ -1,6 +1,7 @@
 // What each router holds, early and late, over lent columns: what the eight steps give it where the others stand at the rows of
 // their own at which the contest comes to rest.
 #![tactic(auto)]
+
 ghost use Rattle.std.specs.Prelude.{◌≡◌, length};
 ghost use Rattle.model.specs.Rows.{table};
 ghost use Rattle.model.specs.Columns.{columns, lent_mesh, choice_of, Placed, Rests, ForecastRows};

@@ -5,11 +5,11 @@ use borrow.Author.Rules.{rules}
 use Rattle.hold.proofs.forecast_rows.Statement.{statement}
 use Rattle.hold.proofs.forecast_rows.Tie as tie
 
-forecast-rows-in-requires : tie.Need-forecast-rows-in-requires
+forecast-rows-in-requires : tie.Need-forecast_rows_in-requires
 forecast-rows-in-requires c κs =
     let start : tie.Start = search rules in
-    let few = start.pre.0.fits.few in
-    (start.pre.0, (simp length-take (omega arith), simp length-take (omega arith), start.pre.1))
+    let few = start.requires.0.fits.few in
+    (start.requires.0, (simp length-take (omega arith), simp length-take (omega arith), start.requires.1))
 
 pub forecast_rows_spec : {M : Type 1} → statement M
 forecast_rows_spec =

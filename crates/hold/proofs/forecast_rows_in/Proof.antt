@@ -35,29 +35,29 @@ rests ids distances t x n k {own} e sound c o r l some =
     ap (λ (rows : List ℕ). choice_of n ids distances t rows r) stood ∙ stands_chosen M sound (x n) c r l (λ z. some (here ∙ z)) ∙ sym here
 
 -- places, each by the one after it
-abbrev start_of : tie.After-own-rows → tie.Start
+abbrev start_of : tie.After-own_rows → tie.Start
 start_of c = search rules
 
-abbrev stood-of : tie.After-hold → tie.After-own-rows
+abbrev stood-of : tie.After-hold → tie.After-own_rows
 stood-of c = search rules
 
-abbrev first_of : tie.After-hold2 → tie.After-hold
+abbrev first_of : tie.After-hold-2 → tie.After-hold
 first_of c = search rules
 
-module _ (c : tie.After-own-rows) where
+module _ (c : tie.After-own_rows) where
   abbrev start : tie.Start
   start = start_of c
 
-  first-long : length c.own-rows.new.1.1.1.1.1.1.1.1.0 ≡ length start.args.early.now
-  first-long = c.own-rows.auto.1.1.1.1.1.1.1.1.0 ∙ start.pre.1.0
+  first-long : length c.own_rows.new.early ≡ length start.args.early.now
+  first-long = c.own_rows.auto.early ∙ start.requires.1.0
 
-  last-long : length c.own-rows.new.1.1.1.1.1.1.1.1.1.0 ≡ length start.args.early.now
-  last-long = c.own-rows.auto.1.1.1.1.1.1.1.1.1.0 ∙ start.pre.1.1
+  last-long : length c.own_rows.new.late ≡ length start.args.early.now
+  last-long = c.own_rows.auto.late ∙ start.requires.1.1
 
-own-rows-requires : tie.Need-own-rows-requires
+own-rows-requires : tie.Need-own_rows-requires
 own-rows-requires c κs =
     let entry : tie.Start = search rules in
-    (rw entry.pre.1.0 entry.pre.0.fits, entry.pre.1.1 ∙ sym entry.pre.1.0)
+    (rw entry.requires.1.0 entry.requires.0.fits, entry.requires.1.1 ∙ sym entry.requires.1.0)
 
 -- where the contest of a sound prefix comes to rest
 module _ (entry : tie.Start) where
@@ -68,17 +68,17 @@ module _ (entry : tie.Start) where
   M = lent_mesh (length entry.args.early.now) entry.args.ids.now entry.args.distances.now t
 
   fair-here : Fair (contest M)
-  fair-here = fair M entry.pre.0.sound
+  fair-here = fair M entry.requires.0.sound
 
 hold-requires : tie.Need-hold-requires
 hold-requires c κs =
-    let stood : tie.After-own-rows = search rules in
+    let stood : tie.After-own_rows = search rules in
     let entry = start stood in
     let a = entry.args in
     let k = length a.first.now in
     let n = length a.early.now in (
-      rw (first-long stood) entry.pre.0,
-      (rw (first-long stood) (rests a.ids.now a.distances.now (t entry) (λ m. earliest (contest (routes_mesh m (t entry)))) n k entry.pre.1.0 entry.pre.0.sound (earliest_calm (contest (M entry)) (fair-here entry)) stood.own-rows.ensures.early_rows), sym (first-long stood)),
+      rw (first-long stood) entry.requires.0,
+      (rw (first-long stood) (rests a.ids.now a.distances.now (t entry) (λ m. earliest (contest (routes_mesh m (t entry)))) n k entry.requires.1.0 entry.requires.0.sound (earliest_calm (contest (M entry)) (fair-here entry)) stood.own_rows.ensures.early_rows), sym (first-long stood)),
     )
 
 hold-requires-2 : tie.Need-hold-requires-2
@@ -89,13 +89,13 @@ hold-requires-2 c κs =
     let a = entry.args in
     let k = length a.first.now in
     let n = length a.early.now in (
-      rw (last-long stood) entry.pre.0,
-      (rw (last-long stood) (rests a.ids.now a.distances.now (t entry) (λ m. latest (contest (routes_mesh m (t entry)))) n k entry.pre.1.0 entry.pre.0.sound (latest_calm (contest (M entry)) (fair-here entry)) stood.own-rows.ensures.late_rows), entry.pre.1.2 ∙ sym (last-long stood)),
+      rw (last-long stood) entry.requires.0,
+      (rw (last-long stood) (rests a.ids.now a.distances.now (t entry) (λ m. latest (contest (routes_mesh m (t entry)))) n k entry.requires.1.0 entry.requires.0.sound (latest_calm (contest (M entry)) (fair-here entry)) stood.own_rows.ensures.late_rows), entry.requires.1.2 ∙ sym (last-long stood)),
     )
 
 returns : tie.Need-returns
 returns c =
-    let second : tie.After-hold2 = search rules in
+    let second : tie.After-hold-2 = search rules in
     let first = first_of second in
     let stood = stood-of first in
     let entry = start stood in
@@ -103,8 +103,8 @@ returns c =
     let n = length a.early.now in
     let k = length a.first.now in
     record {
-      early_rows = held_is a.ids.now a.distances.now (t entry) (λ m. earliest (contest (routes_mesh m (t entry)))) n k entry.pre.1.0 (first-long stood) stood.own-rows.ensures.early_rows first.hold.ensures;
-      late_rows = held_is a.ids.now a.distances.now (t entry) (λ m. latest (contest (routes_mesh m (t entry)))) n k entry.pre.1.0 (last-long stood) stood.own-rows.ensures.late_rows second.hold2.ensures;
+      early_rows = held_is a.ids.now a.distances.now (t entry) (λ m. earliest (contest (routes_mesh m (t entry)))) n k entry.requires.1.0 (first-long stood) stood.own_rows.ensures.early_rows first.hold.ensures;
+      late_rows = held_is a.ids.now a.distances.now (t entry) (λ m. latest (contest (routes_mesh m (t entry)))) n k entry.requires.1.0 (last-long stood) stood.own_rows.ensures.late_rows second.hold-2.ensures;
     }
 
 pub forecast_rows_in_spec : {M : Type 1} → statement M
