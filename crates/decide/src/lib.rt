@@ -1,5 +1,6 @@
 // One prefix decided on lent columns: each router's early and late row, and which routers differ.
 #![tactic(auto)]
+
 ghost use Rattle.std.specs.Prelude.{◌≡◌, length};
 ghost use Rattle.model.specs.Columns.{columns, lent_mesh, Placed};
 ghost use Rattle.decide.specs.Decide.{Decided};
