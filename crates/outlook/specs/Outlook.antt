@@ -12,7 +12,6 @@ use Rattle.model.specs.Contest.{early, late}
 use Rattle.model.specs.Columns.{Columns, columns, Placed}
 use Rattle.model.specs.Decision.{Mesh}
 use Rattle.model.specs.Stability.{Between}
-use Rattle.word.specs.Word.{word}
 use Rattle.decide.specs.declared.Differing.{Differing}
 use Rattle.decide.specs.Decide.{differing_of}
 use Rattle.outlook.specs.declared.Outlook.{Outlook}

@@ -1,5 +1,6 @@
 // The forecast of one prefix over lent tables: each router's early and late row, and which routers differ.
 #![tactic(auto)]
+
 ghost use Rattle.std.specs.Prelude.{◌≡◌, ◌-◌, ◌≤◌, length};
 ghost use Rattle.model.specs.Columns.{columns, lent_mesh};
 ghost use Rattle.snapshot.specs.Limits.{most_routes};

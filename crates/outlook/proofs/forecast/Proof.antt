@@ -23,109 +23,109 @@ lent s =
     (columns s.args.router.now s.args.asn.now s.args.preference.now s.args.path.now s.args.origin.now
     s.args.mark.now s.args.med.now s.args.nid.now s.args.peer.now)
 
-returns : tie.Need-returns
+returns : tie.Need-returns-then-early-most
 returns c =
     let s : tie.Start = search rules in
-    let shorter : tie.Then1 = search rules in
-    room (area_short (lent s) s.args.early.now s.args.late.now shorter.if1.taken)
+    let shorter : tie.Then-early-most = search rules in
+    room (area_short (lent s) s.args.early.now s.args.late.now shorter.if-early-most.true)
 
 -- the verdict, and the entry before it
 abbrev begun : tie.After-examine → tie.Start
 begun seen = search rules
 
-abbrev long : tie.After-examine → tie.Else1
+abbrev long : tie.After-examine → tie.Else-early-most
 long seen = search rules
 
 -- it refuses: ROOM, or TABLE
-returns-3 : tie.Need-returns-3
+returns-3 : tie.Need-returns-in-Refused
 returns-3 c =
     let seen : tie.After-examine = search rules in
-    let told : tie.After-r = search rules in
+    let told : tie.In-Refused = search rules in
     let s = begun seen in
     let early = s.args.early.now in
     let late = s.args.late.now in
     ⊎_elim
     (λ k. subst (λ (q : Refusal). Forecasts s.args.counts (lent s) s.args.prefix early late (refuses q 0) early late) (sym k.0) (room (table_short (lent s) early late k.1)))
     (λ k. subst (λ (q : Refusal). Forecasts s.args.counts (lent s) s.args.prefix early late (refuses q 0) early late) (sym k.0)
-    (no_snapshot (none_short (lent s) early late (long seen).if1.left k.1) (λ snapshot valid held. k.2 (record { snapshot = snapshot; valid = valid; held = held }))))
-    (verdict_refused seen.examine.ensures told.r.given.0.0 (ap numbered told.r.given.1))
+    (no_snapshot (none_short (lent s) early late (long seen).if-early-most.false k.1) (λ snapshot valid held. k.2 (record { snapshot = snapshot; valid = valid; held = held }))))
+    (verdict_refused seen.examine.ensures told.in-Refused.r (ap numbered told.in-Refused.is))
 
 -- it is good
-abbrev seen_by : tie.After-enum-told → tie.After-examine
+abbrev seen_by : tie.In-Good → tie.After-examine
 seen_by told = search rules
 
-abbrev begun-by : tie.After-enum-told → tie.Start
+abbrev begun-by : tie.In-Good → tie.Start
 begun-by told = begun (seen_by told)
 
-enough : (told : tie.After-enum-told) → let s = begun-by told in any_of (short_of (lent s) s.args.early.now s.args.late.now) ≡ false
+enough : (told : tie.In-Good) → let s = begun-by told in any_of (short_of (lent s) s.args.early.now s.args.late.now) ≡ false
 enough told =
     let s = begun-by told in
-    none_short (lent s) s.args.early.now s.args.late.now (long (seen_by told)).if1.false (verdict_good (seen_by told).examine.ensures (ap numbered told.enum_told.given.1)).0
+    none_short (lent s) s.args.early.now s.args.late.now (long (seen_by told)).if-early-most.false (verdict_good (seen_by told).examine.ensures (ap numbered told.in-Good.is)).0
 
-holding : (told : tie.After-enum-told) → let s = begun-by told in Holding s.args.counts (lent s)
-holding told = (verdict_good (seen_by told).examine.ensures (ap numbered told.enum_told.given.1)).1
+holding : (told : tie.In-Good) → let s = begun-by told in Holding s.args.counts (lent s)
+holding told = (verdict_good (seen_by told).examine.ensures (ap numbered told.in-Good.is)).1
 
-free : (told : tie.After-enum-told) → Room (lent (begun-by told))
+free : (told : tie.In-Good) → Room (lent (begun-by told))
 free told = let s = begun-by told in roomy (lent s) s.args.early.now s.args.late.now (enough told)
 
-returns-2 : tie.Need-returns-2
+returns-2 : tie.Need-returns-then-counts-prefix
 returns-2 c =
-    let told : tie.After-enum-told = search rules in
-    let over : tie.Then2 = search rules in
+    let told : tie.In-Good = search rules in
+    let over : tie.Then-counts-prefix = search rules in
     let h = holding told in
-    no_prefix (enough told) h.snapshot h.valid h.held (omega (arith, over.if2.taken, ap (λ (n : Counts). n.prefixes) h.held.0))
+    no_prefix (enough told) h.snapshot h.valid h.held (omega (arith, over.if-counts-prefix.true, ap (λ (n : Counts). n.prefixes) h.held.0))
 
 -- there is such a prefix
-abbrev told_by : tie.Else2 → tie.After-enum-told
+abbrev told_by : tie.Else-counts-prefix → tie.In-Good
 told_by there = search rules
 
-start-of-requires : tie.Need-start-of-requires
+start-of-requires : tie.Need-start_of-first-requires
 start-of-requires c κs =
-    let there : tie.Else2 = search rules in
+    let there : tie.Else-counts-prefix = search rules in
     let told = told_by there in
     let s = begun-by told in
-    let l = inside s.args.counts (lent s) s.args.prefix (free told) (holding told) there.if2.left in
-    (omega arith, omega (arith, fits_in s.args.counts (lent s) s.args.prefix (free told) (holding told) there.if2.left))
+    let l = inside s.args.counts (lent s) s.args.prefix (free told) (holding told) there.if-counts-prefix.false in
+    (omega arith, omega (arith, fits_in s.args.counts (lent s) s.args.prefix (free told) (holding told) there.if-counts-prefix.false))
 
-shared-slice-read-shown : tie.Need-shared-slice-read-shown
+shared-slice-read-shown : tie.Need-bounds-routes-p
 shared-slice-read-shown c =
-    let there : tie.Else2 = search rules in
+    let there : tie.Else-counts-prefix = search rules in
     let told = told_by there in
     let s = begun-by told in
-    inside s.args.counts (lent s) s.args.prefix (free told) (holding told) there.if2.left
+    inside s.args.counts (lent s) s.args.prefix (free told) (holding told) there.if-counts-prefix.false
 
-add-shown : tie.Need-overflow-add-shown
+add-shown : tie.Need-overflow_add-first
 add-shown c =
-    let there : tie.Else2 = search rules in
-    let found : tie.After-start-of = search rules in
+    let there : tie.Else-counts-prefix = search rules in
+    let found : tie.After-start_of-first = search rules in
     let told = told_by there in
     let s = begun-by told in
-    record { fits = omega (arith, found.start_of.ensures, fits_in s.args.counts (lent s) s.args.prefix (free told) (holding told) there.if2.left) }
+    record { fits = omega (arith, found.start_of-first.ensures, fits_in s.args.counts (lent s) s.args.prefix (free told) (holding told) there.if-counts-prefix.false) }
 
 shown-requires : tie.Need-shown-requires
 shown-requires c κs =
-    let there : tie.Else2 = search rules in
-    let found : tie.After-start-of = search rules in
+    let there : tie.Else-counts-prefix = search rules in
+    let found : tie.After-start_of-first = search rules in
     let told = told_by there in
     let s = begun-by told in
     let early = s.args.early.now in
     let late = s.args.late.now in
-    part_of s.args.counts (lent s) s.args.prefix (free told) (holding told) there.if2.left found.start_of.ensures refl early late
+    part_of s.args.counts (lent s) s.args.prefix (free told) (holding told) there.if-counts-prefix.false found.start_of-first.ensures refl early late
     (early_room (lent s) early late (enough told)) (late_room (lent s) early late (enough told))
 
-abbrev there-by : tie.After-shown → tie.Else2
+abbrev there-by : tie.After-shown → tie.Else-counts-prefix
 there-by made = search rules
 
-abbrev found-by : tie.After-shown → tie.After-start-of
+abbrev found-by : tie.After-shown → tie.After-start_of-first
 found-by made = search rules
 
-returns-4 : tie.Need-returns-4
+returns-4 : tie.Need-returns-else-counts-prefix
 returns-4 c =
     let made : tie.After-shown = search rules in
     let there = there-by made in
     let told = told_by there in
     let s = begun-by told in
-    shown_given s.args.counts (lent s) s.args.prefix (free told) (holding told) there.if2.left (found-by made).start_of.ensures refl
+    shown_given s.args.counts (lent s) s.args.prefix (free told) (holding told) there.if-counts-prefix.false (found-by made).start_of-first.ensures refl
     s.args.early.now s.args.late.now (enough told) made.shown.ensures
 
 pub forecast_spec : {M : Type 1} → statement M
@@ -142,7 +142,7 @@ forecast_spec =
     (λ c. search rules)
     (λ c. search rules)
     shared-slice-read-shown
-    (λ c. let there : tie.Else2 = search rules in omega (arith, c.shared-slice-known15.given (begun-by (told_by there)).args.prefix))
+    (λ c. let there : tie.Else-counts-prefix = search rules in omega (arith, c.shared_slice_known-in-Good-1.given (begun-by (told_by there)).args.prefix))
     add-shown
     shown-requires
     returns-3
