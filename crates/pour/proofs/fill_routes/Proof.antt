@@ -17,34 +17,34 @@ use Rattle.fill.specs.StoresLaws.{Taken, taken_start, taken_alike, taken_stop, t
 use Rattle.pour.proofs.fill_routes.Statement.{statement}
 use Rattle.pour.proofs.fill_routes.Tie as tie
 
-abbrev invariant-loop : tie.invariant-loop
-invariant-loop input at row room router₀ asn₀ preference₀ path₀ origin₀ mark₀ med₀ nid₀ peer₀ at₀ row₀ router asn preference path origin mark med nid peer at' row' =
+abbrev invariant-loop-row : tie.invariant-loop-row
+invariant-loop-row input at row room router₀ asn₀ preference₀ path₀ origin₀ mark₀ med₀ nid₀ peer₀ at₀ row₀ router asn preference path origin mark med nid peer at' row' =
     Taken input room at row (columns router₀ asn₀ preference₀ path₀ origin₀ mark₀ med₀ nid₀ peer₀) at' row' (columns router asn preference path origin mark med nid peer)
 
-abbrev decreases-loop : tie.decreases-loop
-decreases-loop input at row room router₀ asn₀ preference₀ path₀ origin₀ mark₀ med₀ nid₀ peer₀ at₀ row₀ router asn preference path origin mark med nid peer at' row' = room - row'
+abbrev decreases-loop-row : tie.decreases-loop-row
+decreases-loop-row input at row room router₀ asn₀ preference₀ path₀ origin₀ mark₀ med₀ nid₀ peer₀ at₀ row₀ router asn preference path origin mark med nid peer at' row' = room - row'
 
-abbrev start : tie.In-loop invariant-loop decreases-loop → tie.Start invariant-loop decreases-loop
+abbrev start : tie.In-loop-row invariant-loop-row decreases-loop-row → tie.Start invariant-loop-row decreases-loop-row
 start c = search rules
 
 -- the bytes, and the place of a turn
-abbrev bytes : tie.In-loop invariant-loop decreases-loop → List ℕ
+abbrev bytes : tie.In-loop-row invariant-loop-row decreases-loop-row → List ℕ
 bytes l = (start l).args.input.now
 
-abbrev place : tie.In-loop invariant-loop decreases-loop → ℕ
-place l = l.before.loop.at
+abbrev place : tie.In-loop-row invariant-loop-row decreases-loop-row → ℕ
+place l = l.loop-row.at
 
 -- the kind that stands there tells the form
-by_kind : (k : tie.After-kind-at invariant-loop decreases-loop) → route_form_by (eqb k.kind_at.result 7) ≡ form_at route_forms (bytes k.before) (place k.before)
-by_kind k = ap (λ (n : ℕ). route_form_by (eqb n 7)) k.kind_at.ensures
+by_kind : (k : tie.After-kind_at-kind invariant-loop-row decreases-loop-row) → route_form_by (eqb k.kind_at-kind.result 7) ≡ form_at route_forms (bytes k.before) (place k.before)
+by_kind k = ap (λ (n : ℕ). route_form_by (eqb n 7)) k.kind_at-kind.ensures
 
 -- where the test left a route, it stands whole in the input
-stands : (c : tie.Else1 invariant-loop decreases-loop) → let l = c.before.before.before in is_route (bytes l) (place l) ≡ true
-stands c = sym c.before.is-route.ensures ∙ not-false _ c.if1.false
+stands : (c : tie.Else-not-is_route invariant-loop-row decreases-loop-row) → let l = c.before in is_route (bytes l) (place l) ≡ true
+stands c = sym c.is_route.ensures ∙ not-false _ c.if-not-is_route.false
 
-whole : (c : tie.Else1 invariant-loop decreases-loop) → let k = c.before.before in place k.before + size (route_form_by (eqb k.kind_at.result 7)) ≤ length (bytes k.before)
+whole : (c : tie.Else-not-is_route invariant-loop-row decreases-loop-row) → let k = c.before in place k.before + size (route_form_by (eqb k.kind_at-kind.result 7)) ≤ length (bytes k.before)
 whole c =
-    let k = c.before.before in
+    let k = c.before in
     let l = k.before in
     subst (λ (f : Form). place l + size f ≤ length (bytes l)) (sym (by_kind k)) (route_whole (bytes l) (place l) (stands c))
 
@@ -52,49 +52,49 @@ pub fill_routes_spec : {M : Type 1} → statement M
 fill_routes_spec =
     tie.close
     (tie.spec
-    invariant-loop
-    decreases-loop
-    (λ c. let s : tie.Start invariant-loop decreases-loop = search rules in taken_start s.pre.0 s.pre.1)
+    invariant-loop-row
+    decreases-loop-row
+    (λ c. let s : tie.Start invariant-loop-row decreases-loop-row = search rules in taken_start s.requires.0 s.requires.1)
     (λ c κs. search rules)
-    (λ c κs. (c.before.before.loop.invariant.inside, c.kind_at.ensures))
-    (λ c. let l : tie.In-loop invariant-loop decreases-loop = search rules in omega (arith, taken_alike l.before.loop.inv))
-    (λ c. let l : tie.In-loop invariant-loop decreases-loop = search rules in omega (arith, taken_alike l.before.loop.inv))
-    (λ c. let l : tie.In-loop invariant-loop decreases-loop = search rules in omega (arith, taken_alike l.before.loop.inv))
-    (λ c. let l : tie.In-loop invariant-loop decreases-loop = search rules in omega (arith, taken_alike l.before.loop.inv))
-    (λ c. let l : tie.In-loop invariant-loop decreases-loop = search rules in omega (arith, taken_alike l.before.loop.inv))
-    (λ c. let l : tie.In-loop invariant-loop decreases-loop = search rules in omega (arith, taken_alike l.before.loop.inv))
-    (λ c. let l : tie.In-loop invariant-loop decreases-loop = search rules in omega (arith, taken_alike l.before.loop.inv))
-    (λ c. let l : tie.In-loop invariant-loop decreases-loop = search rules in omega (arith, taken_alike l.before.loop.inv))
-    (λ c. let l : tie.In-loop invariant-loop decreases-loop = search rules in omega (arith, taken_alike l.before.loop.inv))
+    (λ c κs. (c.loop-row.invariant.inside, c.kind_at-kind.ensures))
+    (λ c. let l : tie.In-loop-row invariant-loop-row decreases-loop-row = search rules in omega (arith, taken_alike l.loop-row.invariant))
+    (λ c. let l : tie.In-loop-row invariant-loop-row decreases-loop-row = search rules in omega (arith, taken_alike l.loop-row.invariant))
+    (λ c. let l : tie.In-loop-row invariant-loop-row decreases-loop-row = search rules in omega (arith, taken_alike l.loop-row.invariant))
+    (λ c. let l : tie.In-loop-row invariant-loop-row decreases-loop-row = search rules in omega (arith, taken_alike l.loop-row.invariant))
+    (λ c. let l : tie.In-loop-row invariant-loop-row decreases-loop-row = search rules in omega (arith, taken_alike l.loop-row.invariant))
+    (λ c. let l : tie.In-loop-row invariant-loop-row decreases-loop-row = search rules in omega (arith, taken_alike l.loop-row.invariant))
+    (λ c. let l : tie.In-loop-row invariant-loop-row decreases-loop-row = search rules in omega (arith, taken_alike l.loop-row.invariant))
+    (λ c. let l : tie.In-loop-row invariant-loop-row decreases-loop-row = search rules in omega (arith, taken_alike l.loop-row.invariant))
+    (λ c. let l : tie.In-loop-row invariant-loop-row decreases-loop-row = search rules in omega (arith, taken_alike l.loop-row.invariant))
     (λ c.
-    let l : tie.In-loop invariant-loop decreases-loop = search rules in
-    let i : tie.After-is-route invariant-loop decreases-loop = search rules in
-    taken_stop l.before.loop.inv l.loop-test.taken (sym i.is-route.ensures ∙ not-true _ c.if1.true))
+    let l : tie.In-loop-row invariant-loop-row decreases-loop-row = search rules in
+    let i : tie.After-is_route invariant-loop-row decreases-loop-row = search rules in
+    taken_stop l.loop-row.invariant l.loop-row-test.true (sym i.is_route.ensures ∙ not-true _ c.if-not-is_route.true))
     (λ c κs. whole c)
     (λ c. omega arith)
     (λ c κs. search rules)
-    (λ c. omega (arith, c.route_size_lem.ensures, whole c.before.before))
+    (λ c. omega (arith, c.route_size-at.ensures, whole c.before))
     (λ c κs.
-    let l : tie.In-loop invariant-loop decreases-loop = search rules in
-    let w = wide_alike (start l).pre.2 (taken_alike l.before.loop.inv) in
-    omega (arith, w, l.loop-test.taken))
-    (λ c. let l : tie.In-loop invariant-loop decreases-loop = search rules in omega (arith, l.loop-test.taken))
+    let l : tie.In-loop-row invariant-loop-row decreases-loop-row = search rules in
+    let w = wide_alike (start l).requires.2 (taken_alike l.loop-row.invariant) in
+    omega (arith, w, l.loop-row-test.true))
+    (λ c. let l : tie.In-loop-row invariant-loop-row decreases-loop-row = search rules in omega (arith, l.loop-row-test.true))
     (λ c.
-    let p : tie.After-put-route invariant-loop decreases-loop = search rules in
-    let z : tie.After-route-size invariant-loop decreases-loop = search rules in
+    let p : tie.After-put_route invariant-loop-row decreases-loop-row = search rules in
+    let z : tie.After-route_size-at invariant-loop-row decreases-loop-row = search rules in
     let g = z.before in
-    let k = g.before.before.before in
+    let k = g.before in
     let l = k.before in
-    taken_next l.before.loop.inv l.loop-test.taken (stands g.before)
-    (ap route_is g.route-at.ensures ∙ ap (λ (f : Form). route_of (values_at f (bytes l) (place l))) (by_kind k))
-    (ap (λ (n : ℕ). place l + n) z.route_size_lem.ensures ∙ ap (λ (f : Form). place l + size f) (by_kind k)) p.put-route.ensures)
-    (λ c. omega (arith, taken_alike c.before.loop.invariant))
-    (λ c. omega (arith, taken_alike c.before.loop.invariant))
-    (λ c. omega (arith, taken_alike c.before.loop.invariant))
-    (λ c. omega (arith, taken_alike c.before.loop.invariant))
-    (λ c. omega (arith, taken_alike c.before.loop.invariant))
-    (λ c. omega (arith, taken_alike c.before.loop.invariant))
-    (λ c. omega (arith, taken_alike c.before.loop.invariant))
-    (λ c. omega (arith, taken_alike c.before.loop.invariant))
-    (λ c. omega (arith, taken_alike c.before.loop.invariant))
-    (λ c. taken_end c.before.loop.invariant c.loop-test.false))
+    taken_next l.loop-row.invariant l.loop-row-test.true (stands g.before)
+    (ap route_is g.route_at-r.ensures ∙ ap (λ (f : Form). route_of (values_at f (bytes l) (place l))) (by_kind k))
+    (ap (λ (n : ℕ). place l + n) z.route_size-at.ensures ∙ ap (λ (f : Form). place l + size f) (by_kind k)) p.put_route.ensures)
+    (λ c. omega (arith, taken_alike c.loop-row.invariant))
+    (λ c. omega (arith, taken_alike c.loop-row.invariant))
+    (λ c. omega (arith, taken_alike c.loop-row.invariant))
+    (λ c. omega (arith, taken_alike c.loop-row.invariant))
+    (λ c. omega (arith, taken_alike c.loop-row.invariant))
+    (λ c. omega (arith, taken_alike c.loop-row.invariant))
+    (λ c. omega (arith, taken_alike c.loop-row.invariant))
+    (λ c. omega (arith, taken_alike c.loop-row.invariant))
+    (λ c. omega (arith, taken_alike c.loop-row.invariant))
+    (λ c. taken_end c.loop-row.invariant c.loop-row-test.false))

@@ -14,13 +14,13 @@ use Rattle.sessions.specs.SessionsLaws.{entry_opening, entry_values, entry_next,
 use Rattle.sessions.proofs.entry.Statement.{statement}
 use Rattle.sessions.proofs.entry.Tie as tie
 
-abbrev start : tie.After-enum-told → tie.Start
+abbrev start : tie.In-Clear → tie.Start
 start c = search rules
 
-clear : (c : tie.After-enum-told) → let a = (start c).args in Clear ≡ finding (opening_checks policy_forms a.input.now a.c.at a.kind (astray_of a.kind a.k) (full_of a.kind a.k))
-clear c = let o : tie.After-opening = search rules in sym c.enum_told.given.1 ∙ o.opening.ensures
+clear : (c : tie.In-Clear) → let a = (start c).args in Clear ≡ finding (opening_checks policy_forms a.input.now a.c.at a.kind (astray_of a.kind a.k) (full_of a.kind a.k))
+clear c = let o : tie.After-opening = search rules in sym c.in-Clear.is ∙ o.opening.ensures
 
-whole : (c : tie.After-enum-told) → let a = (start c).args in a.c.at + body_length policy_forms a.kind < length a.input.now
+whole : (c : tie.In-Clear) → let a = (start c).args in a.c.at + body_length policy_forms a.kind < length a.input.now
 whole c = let a = (start c).args in opened policy_forms a.input.now a.c.at a.kind (astray_of a.kind a.k) (full_of a.kind a.k) (clear c)
 
 pub entry_spec : {M : Type 1} → statement M
@@ -35,20 +35,20 @@ entry_spec =
     (λ c. search rules)
     (λ c κs.
     let s : tie.Start = search rules in
-    let bytes = listed_bytes s.pre.1 in
-    (s.pre.0.reads.low, omega (arith, whole (search rules), bytes), omega (arith, bytes)))
-    (λ c κs. let s : tie.Start = search rules in (whole (search rules), s.pre.0.tells.few, s.pre.0.tells.short))
+    let bytes = listed_bytes s.requires.1 in
+    (s.requires.0.reads.low, omega (arith, whole (search rules), bytes), omega (arith, bytes)))
+    (λ c κs. let s : tie.Start = search rules in (whole (search rules), s.requires.0.tells.few, s.requires.0.tells.short))
     (λ c.
     let s : tie.Start = search rules in
     let o : tie.After-opening = search rules in
-    entry_opening s.pre.0 s.pre.1 s.pre.2 (sym c.before.f.given.1 ∙ o.opening.ensures))
+    entry_opening s.requires.0 s.requires.1 s.requires.2 (sym c.in-Fault.is ∙ o.opening.ensures))
     (λ c.
     let s : tie.Start = search rules in
     let v : tie.After-faults = search rules in
-    entry_values s.pre.0 s.pre.1 s.pre.2 (clear (search rules)) (sym c.before.f2.given.1 ∙ v.faults.ensures))
+    entry_values s.requires.0 s.requires.1 s.requires.2 (clear (search rules)) (sym c.in-Fault-faults.is ∙ v.faults.ensures))
     (λ c.
     let s : tie.Start = search rules in
     let v : tie.After-faults = search rules in
-    let e : tie.After-enum-told2 = search rules in
-    subst (Follows s.args.input.now s.args.c) (sym (ap₂ Next c.before.past.ensures c.next.ensures))
-    (entry_next s.pre.0 s.pre.1 s.pre.2 (clear (search rules)) (sym e.enum-told2.given.1 ∙ v.faults.ensures))))
+    let e : tie.In-Clear-faults = search rules in
+    subst (Follows s.args.input.now s.args.c) (sym (ap₂ Next c.past.ensures c.next.ensures))
+    (entry_next s.requires.0 s.requires.1 s.requires.2 (clear (search rules)) (sym e.in-Clear-faults.is ∙ v.faults.ensures))))

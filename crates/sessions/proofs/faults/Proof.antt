@@ -20,46 +20,46 @@ faults_spec =
     tie.close
     (tie.spec
     (λ c. search rules)
-    (λ c κs. let s : tie.Start = search rules in let m : tie.At-match-keys1 = search rules in omega (arith, at_kind s.args.input.now s.args.at m.match.keys1 s.pre))
+    (λ c κs. let s : tie.Start = search rules in let m : tie.In-1 = search rules in omega (arith, at_kind s.args.input.now s.args.at m.match.keys1 s.requires))
     (λ c. search rules)
-    (λ c κs. let s : tie.Start = search rules in let m : tie.At-match-keys1 = search rules in omega (arith, at_kind s.args.input.now s.args.at m.match.keys1 s.pre))
+    (λ c κs. let s : tie.Start = search rules in let m : tie.In-1 = search rules in omega (arith, at_kind s.args.input.now s.args.at m.match.keys1 s.requires))
     (λ c κs. search rules)
     (λ c. search rules)
-    (λ c κs. let s : tie.Start = search rules in let m : tie.At-match-keys2 = search rules in omega (arith, at_kind s.args.input.now s.args.at m.match.keys2 s.pre))
+    (λ c κs. let s : tie.Start = search rules in let m : tie.In-2 = search rules in omega (arith, at_kind s.args.input.now s.args.at m.match.keys2 s.requires))
     (λ c. search rules)
-    (λ c κs. let s : tie.Start = search rules in let m : tie.At-match-keys2 = search rules in omega (arith, at_kind s.args.input.now s.args.at m.match.keys2 s.pre))
+    (λ c κs. let s : tie.Start = search rules in let m : tie.In-2 = search rules in omega (arith, at_kind s.args.input.now s.args.at m.match.keys2 s.requires))
     (λ c κs. search rules)
     (λ c κs. search rules)
     (λ c. search rules)
-    (λ c κs. let s : tie.Start = search rules in let m : tie.At-match-keys3 = search rules in omega (arith, at_kind s.args.input.now s.args.at m.match.keys3 s.pre))
+    (λ c κs. let s : tie.Start = search rules in let m : tie.In-3 = search rules in omega (arith, at_kind s.args.input.now s.args.at m.match.keys3 s.requires))
     (λ c κs. search rules)
     (λ c κs. search rules)
     (λ c.
     let s : tie.Start = search rules in
-    let m : tie.At-match-keys1 = search rules in
+    let m : tie.In-1 = search rules in
     let r : tie.After-get8 = search rules in
     let p : tie.After-get32 = search rules in
     let a = s.args in
-    c.session-faults.ensures ∙ ap₂ (λ (r p : ℕ). finding (session_faults a.k r p)) r.get8.ensures p.get32.ensures
+    c.session_faults.ensures ∙ ap₂ (λ (r p : ℕ). finding (session_faults a.k r p)) r.get8.ensures p.get32.ensures
     ∙ sym (ap (λ (n : ℕ). finding (faults_of n a.k a.input.now a.at)) m.match.keys1))
     (λ c.
     let s : tie.Start = search rules in
-    let m : tie.At-match-keys2 = search rules in
-    let p : tie.After-get322 = search rules in
-    let n : tie.After-get82 = search rules in
-    let b : tie.After-prefix-bad = search rules in
+    let m : tie.In-2 = search rules in
+    let p : tie.After-get32-in-2 = search rules in
+    let n : tie.After-get8-in-2 = search rules in
+    let b : tie.After-prefix_bad = search rules in
     let a = s.args in
     c.field.ensures
-    ∙ ap (λ (b : Bool). finding ((not b else Field) ∷ [])) (b.prefix_bad.ensures ∙ ap₂ (λ (a b : ℕ). any_of (prefix_tests a b)) p.get322.ensures n.get82.ensures)
+    ∙ ap (λ (b : Bool). finding ((not b else Field) ∷ [])) (b.prefix_bad.ensures ∙ ap₂ (λ (a b : ℕ). any_of (prefix_tests a b)) p.get32-in-2.ensures n.get8-in-2.ensures)
     ∙ sym (ap (λ (n : ℕ). finding (faults_of n a.k a.input.now a.at)) m.match.keys2))
     (λ c.
     let s : tie.Start = search rules in
-    let m : tie.At-match-keys3 = search rules in
-    let p : tie.After-get323 = search rules in
-    let b : tie.After-clause-asn-bad = search rules in
+    let m : tie.In-3 = search rules in
+    let p : tie.After-get32-in-3 = search rules in
+    let b : tie.After-clause_asn_bad = search rules in
     let a = s.args in
-    c.field2.ensures
-    ∙ ap (λ (b : Bool). finding ((not b else Field) ∷ [])) (b.clause-asn-bad.ensures ∙ ap (λ (n : ℕ). any_of (clause_asn_tests n)) p.get323.ensures)
+    c.field-in-3.ensures
+    ∙ ap (λ (b : Bool). finding ((not b else Field) ∷ [])) (b.clause_asn_bad.ensures ∙ ap (λ (n : ℕ). any_of (clause_asn_tests n)) p.get32-in-3.ensures)
     ∙ sym (ap (λ (n : ℕ). finding (faults_of n a.k a.input.now a.at)) m.match.keys3))
     (λ c.
     let s : tie.Start = search rules in

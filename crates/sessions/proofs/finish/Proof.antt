@@ -12,16 +12,16 @@ finish_spec =
     tie.close
     (tie.spec
     (λ c κs. search rules)
-    (λ c κs e. let s : tie.Start = search rules in c.body-length.ensures ∙ ap (body_of policy_forms) (sym s.pre.1 ∙ e))
+    (λ c κs e. let s : tie.Start = search rules in c.body_length.ensures ∙ ap (body_of policy_forms) (sym s.requires.1 ∙ e))
     (λ c. search rules)
     (λ c. search rules)
     (λ c.
     let s : tie.Start = search rules in
-    let b : tie.After-body-length = search rules in
+    let b : tie.After-body_length = search rules in
     let e : tie.After-ends = search rules in
-    sym (ap end_said c.before.r.given.1) ∙ e.ends.ensures ∙ end_said_lem s.pre.0 s.pre.1 s.pre.2 b.body-length.ensures)
+    sym (ap end_said c.in-Refused.is) ∙ e.ends.ensures ∙ end_said_lem s.requires.0 s.requires.1 s.requires.2 b.body_length.ensures)
     (λ c.
     let s : tie.Start = search rules in
-    let b : tie.After-body-length = search rules in
+    let b : tie.After-body_length = search rules in
     let e : tie.After-ends = search rules in
-    sym (ap end_said c.enum_told.given.1) ∙ e.ends.ensures ∙ end_said_lem s.pre.0 s.pre.1 s.pre.2 b.body-length.ensures))
+    sym (ap end_said c.in-Ended.is) ∙ e.ends.ensures ∙ end_said_lem s.requires.0 s.requires.1 s.requires.2 b.body_length.ensures))

@@ -14,22 +14,22 @@ next_spec =
     (tie.spec
     (λ c. search rules)
     (λ c. search rules)
-    (λ c κs. let s : tie.Start = search rules in let m : tie.At-match-keys1 = search rules in omega (arith, at_kind s.args.input.now s.args.at m.match.keys1 s.pre.0))
+    (λ c κs. let s : tie.Start = search rules in let m : tie.In-1 = search rules in omega (arith, at_kind s.args.input.now s.args.at m.match.keys1 s.requires.0))
     (λ c. search rules)
-    (λ c κs. let s : tie.Start = search rules in let m : tie.At-match-keys1 = search rules in omega (arith, at_kind s.args.input.now s.args.at m.match.keys1 s.pre.0))
+    (λ c κs. let s : tie.Start = search rules in let m : tie.In-1 = search rules in omega (arith, at_kind s.args.input.now s.args.at m.match.keys1 s.requires.0))
     (λ c. search rules)
     (λ c.
     let s : tie.Start = search rules in
-    let m : tie.At-match-keys1 = search rules in
+    let m : tie.In-1 = search rules in
     let r : tie.After-get8 = search rules in
     let a = s.args in
     ap₂ (more_session a.k) r.get8.ensures c.get32.ensures ∙ sym (ap (λ (n : ℕ). next_of n a.k a.input.now a.at) m.match.keys1))
     (λ c.
     let s : tie.Start = search rules in
-    let m : tie.At-match-keys2 = search rules in
+    let m : tie.In-5 = search rules in
     let a = s.args in
     sym (ap (λ (n : ℕ). next_of n a.k a.input.now a.at) m.match.keys2))
     (λ c.
     let s : tie.Start = search rules in
-    let m : tie.At-match-rest = search rules in
+    let m : tie.In_default = search rules in
     next_clause s.args.input.now s.args.at s.args.k m.match.rest.0.1 m.match.rest.1))

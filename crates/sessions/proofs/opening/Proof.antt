@@ -16,7 +16,7 @@ opening_spec =
     (λ c κs. search rules)
     (λ c.
     let s : tie.Start = search rules in
-    let b : tie.After-body-length = search rules in
+    let b : tie.After-body_length = search rules in
     let a = s.args in
     c.opens.ensures
-    ∙ opening_table a.input.now a.c.at a.kind (astray_of a.kind a.k) (full_of a.kind a.k) policy_forms _ (b.body-length.ensures ∙ ap (body_of policy_forms) (sym s.pre))))
+    ∙ opening_table a.input.now a.c.at a.kind (astray_of a.kind a.k) (full_of a.kind a.k) policy_forms _ (b.body_length.ensures ∙ ap (body_of policy_forms) (sym s.requires))))

@@ -19,9 +19,9 @@ session_faults_spec =
     (λ c κs. search rules)
     (λ c.
     let s : tie.Start = search rules in
-    let l : tie.After-late = search rules in
+    let l : tie.After-late-order = search rules in
     let a = s.args in
-    c.check2.ensures
+    c.check-2.ensures
     ∙ ap (λ (x : Finding). cond (not (eqb a.peer 0)) x (Fault Field))
-    (c.before.check.ensures
-    ∙ ap (λ (b : Bool). cond b Clear (Fault Order)) (ap not l.late.ensures ∙ not-not (rises a.k.router a.k.peer a.router a.peer)))))
+    (c.check.ensures
+    ∙ ap (λ (b : Bool). cond b Clear (Fault Order)) (ap not l.late-order.ensures ∙ not-not (rises a.k.router a.k.peer a.router a.peer)))))
