@@ -27,7 +27,7 @@ abbrev network : tie.After-fill_routes-end invariant-loop-p decreases-loop-p →
 network f = search rules
 
 abbrev turn : tie.After-fill_routes-end invariant-loop-p decreases-loop-p → tie.In-loop-p invariant-loop-p decreases-loop-p
-turn f = (network f).before
+turn f = search rules
 
 -- where the routes of a prefix that was put were filled
 abbrev filled : tie.After-put_prefix invariant-loop-p decreases-loop-p → tie.After-fill_routes-end invariant-loop-p decreases-loop-p
@@ -66,8 +66,8 @@ fill_prefixes_spec =
     (λ c. omega arith)
     (λ c. search rules)
     (λ c κs.
-    let e : tie.Else-input-at invariant-loop-p decreases-loop-p = c.before in
-    let l = e.before in
+    let e : tie.Else-input-at invariant-loop-p decreases-loop-p = search rules in
+    let l : tie.In-loop-p invariant-loop-p decreases-loop-p = search rules in
     let w = wide_lists (start l).requires.2 (listed_alike l.loop-p.invariant) in
     (e.if-input-at.false, l.loop-p.invariant.few, w.rows))
     (λ c. (room (search rules)).0)

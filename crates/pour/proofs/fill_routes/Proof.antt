@@ -7,7 +7,6 @@ use mathlib.Core.Bool.{true}
 use mathlib.Core.List.{List}
 use lib.ListN.{length}
 use lib.Dec.{eqb}
-use borrow.Author.Tests.{not-true, not-false}
 use Rattle.snapshot.specs.Plain.{route_is}
 use Rattle.snapshot.specs.Records.{Form, route_form_by, route_forms, size, form_at, values_at}
 use Rattle.snapshot.specs.Reading.{route_of}
@@ -24,29 +23,18 @@ invariant-loop-row input at row room router₀ asn₀ preference₀ path₀ orig
 abbrev decreases-loop-row : tie.decreases-loop-row
 decreases-loop-row input at row room router₀ asn₀ preference₀ path₀ origin₀ mark₀ med₀ nid₀ peer₀ at₀ row₀ router asn preference path origin mark med nid peer at' row' = room - row'
 
-abbrev start : tie.In-loop-row invariant-loop-row decreases-loop-row → tie.Start invariant-loop-row decreases-loop-row
-start c = search rules
-
--- the bytes, and the place of a turn
-abbrev bytes : tie.In-loop-row invariant-loop-row decreases-loop-row → List ℕ
-bytes l = (start l).args.input.now
-
-abbrev place : tie.In-loop-row invariant-loop-row decreases-loop-row → ℕ
-place l = l.loop-row.at
-
 -- the kind that stands there tells the form
-by_kind : (k : tie.After-kind_at-kind invariant-loop-row decreases-loop-row) → route_form_by (eqb k.kind_at-kind.result 7) ≡ form_at route_forms (bytes k.before) (place k.before)
+by_kind : (k : tie.After-kind_at-kind invariant-loop-row decreases-loop-row) → route_form_by (eqb k.kind_at-kind.result 7) ≡ form_at route_forms k.args.input.now k.loop-row.at
 by_kind k = ap (λ (n : ℕ). route_form_by (eqb n 7)) k.kind_at-kind.ensures
 
 -- where the test left a route, it stands whole in the input
-stands : (c : tie.Else-not-is_route invariant-loop-row decreases-loop-row) → let l = c.before in is_route (bytes l) (place l) ≡ true
-stands c = sym c.is_route.ensures ∙ not-false _ c.if-not-is_route.false
+stands : (c : tie.Else-not-is_route invariant-loop-row decreases-loop-row) → is_route c.args.input.now c.loop-row.at ≡ true
+stands c = sym c.is_route.ensures ∙ c.if-not-is_route.false
 
-whole : (c : tie.Else-not-is_route invariant-loop-row decreases-loop-row) → let k = c.before in place k.before + size (route_form_by (eqb k.kind_at-kind.result 7)) ≤ length (bytes k.before)
+whole : (c : tie.Else-not-is_route invariant-loop-row decreases-loop-row) → c.loop-row.at + size (route_form_by (eqb c.kind_at-kind.result 7)) ≤ length c.args.input.now
 whole c =
-    let k = c.before in
-    let l = k.before in
-    subst (λ (f : Form). place l + size f ≤ length (bytes l)) (sym (by_kind k)) (route_whole (bytes l) (place l) (stands c))
+    let k : tie.After-kind_at-kind invariant-loop-row decreases-loop-row = search rules in
+    subst (λ (f : Form). c.loop-row.at + size f ≤ length c.args.input.now) (sym (by_kind k)) (route_whole c.args.input.now c.loop-row.at (stands c))
 
 pub fill_routes_spec : {M : Type 1} → statement M
 fill_routes_spec =
@@ -69,25 +57,24 @@ fill_routes_spec =
     (λ c.
     let l : tie.In-loop-row invariant-loop-row decreases-loop-row = search rules in
     let i : tie.After-is_route invariant-loop-row decreases-loop-row = search rules in
-    taken_stop l.loop-row.invariant l.loop-row-test.true (sym i.is_route.ensures ∙ not-true _ c.if-not-is_route.true))
+    taken_stop l.loop-row.invariant l.loop-row-test.true (sym i.is_route.ensures ∙ c.if-not-is_route.true))
     (λ c κs. whole c)
     (λ c. omega arith)
     (λ c κs. search rules)
-    (λ c. omega (arith, c.route_size-at.ensures, whole c.before))
+    (λ c. let e : tie.Else-not-is_route invariant-loop-row decreases-loop-row = search rules in omega (arith, c.route_size-at.ensures, whole e))
     (λ c κs.
     let l : tie.In-loop-row invariant-loop-row decreases-loop-row = search rules in
-    let w = wide_alike (start l).requires.2 (taken_alike l.loop-row.invariant) in
+    let w = wide_alike l.requires.2 (taken_alike l.loop-row.invariant) in
     omega (arith, w, l.loop-row-test.true))
     (λ c. let l : tie.In-loop-row invariant-loop-row decreases-loop-row = search rules in omega (arith, l.loop-row-test.true))
     (λ c.
     let p : tie.After-put_route invariant-loop-row decreases-loop-row = search rules in
     let z : tie.After-route_size-at invariant-loop-row decreases-loop-row = search rules in
-    let g = z.before in
-    let k = g.before in
-    let l = k.before in
-    taken_next l.loop-row.invariant l.loop-row-test.true (stands g.before)
-    (ap route_is g.route_at-r.ensures ∙ ap (λ (f : Form). route_of (values_at f (bytes l) (place l))) (by_kind k))
-    (ap (λ (n : ℕ). place l + n) z.route_size-at.ensures ∙ ap (λ (f : Form). place l + size f) (by_kind k)) p.put_route.ensures)
+    let e : tie.Else-not-is_route invariant-loop-row decreases-loop-row = search rules in
+    let k : tie.After-kind_at-kind invariant-loop-row decreases-loop-row = search rules in
+    taken_next c.loop-row.invariant c.loop-row-test.true (stands e)
+    (ap route_is z.route_at-r.ensures ∙ ap (λ (f : Form). route_of (values_at f c.args.input.now c.loop-row.at)) (by_kind k))
+    (ap (λ (n : ℕ). c.loop-row.at + n) z.route_size-at.ensures ∙ ap (λ (f : Form). c.loop-row.at + size f) (by_kind k)) p.put_route.ensures)
     (λ c. omega (arith, taken_alike c.loop-row.invariant))
     (λ c. omega (arith, taken_alike c.loop-row.invariant))
     (λ c. omega (arith, taken_alike c.loop-row.invariant))

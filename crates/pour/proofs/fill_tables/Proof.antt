@@ -11,9 +11,9 @@ start b = search rules
 
 returns : tie.Need-returns
 returns c =
-    let p : tie.After-fill_prefixes = c.before in
-    let d : tie.After-fill_distances = p.before in
-    let i : tie.After-fill_ids = d.before in
+    let p : tie.After-fill_prefixes = search rules in
+    let d : tie.After-fill_distances = search rules in
+    let i : tie.After-fill_ids = search rules in
     let b : tie.After-behind_distances-at = search rules in
     let s = start b in
     tables_filled s.args.input.now s.args.n s.args.prefixes (tables s.args.ids.now s.args.distances.now s.args.address.now s.args.bits.now s.args.routes.now (columns s.args.router.now s.args.asn.now s.args.preference.now s.args.path.now s.args.origin.now s.args.mark.now s.args.med.now s.args.nid.now s.args.peer.now)) b.behind_distances-at.ensures i.fill_ids.ensures d.fill_distances.ensures p.fill_prefixes.ensures
@@ -30,18 +30,18 @@ fill_tables_spec =
     let s = start b in
     let room = s.requires.2.prefixes in
     (omega (arith, b.behind_distances-at.ensures, s.requires.0.long), s.requires.1, record { address = room.address; bits = room.bits; routes = room.routes; rows = room.rows }))
-    (λ c. let i : tie.After-fill_ids = c.before in i.fill_ids.auto.ids)
-    (λ c. let d : tie.After-fill_distances = c.before in d.fill_distances.auto.distances)
-    (λ c. let p : tie.After-fill_prefixes = c.before in p.fill_prefixes.auto.address)
-    (λ c. let p : tie.After-fill_prefixes = c.before in p.fill_prefixes.auto.bits)
-    (λ c. let p : tie.After-fill_prefixes = c.before in p.fill_prefixes.auto.routes)
-    (λ c. let p : tie.After-fill_prefixes = c.before in p.fill_prefixes.auto.router)
-    (λ c. let p : tie.After-fill_prefixes = c.before in p.fill_prefixes.auto.asn)
-    (λ c. let p : tie.After-fill_prefixes = c.before in p.fill_prefixes.auto.preference)
-    (λ c. let p : tie.After-fill_prefixes = c.before in p.fill_prefixes.auto.path)
-    (λ c. let p : tie.After-fill_prefixes = c.before in p.fill_prefixes.auto.origin)
-    (λ c. let p : tie.After-fill_prefixes = c.before in p.fill_prefixes.auto.mark)
-    (λ c. let p : tie.After-fill_prefixes = c.before in p.fill_prefixes.auto.med)
-    (λ c. let p : tie.After-fill_prefixes = c.before in p.fill_prefixes.auto.nid)
-    (λ c. let p : tie.After-fill_prefixes = c.before in p.fill_prefixes.auto.peer)
+    (λ c. let i : tie.After-fill_ids = search rules in i.fill_ids.auto.ids)
+    (λ c. let d : tie.After-fill_distances = search rules in d.fill_distances.auto.distances)
+    (λ c. let p : tie.After-fill_prefixes = search rules in p.fill_prefixes.auto.address)
+    (λ c. let p : tie.After-fill_prefixes = search rules in p.fill_prefixes.auto.bits)
+    (λ c. let p : tie.After-fill_prefixes = search rules in p.fill_prefixes.auto.routes)
+    (λ c. let p : tie.After-fill_prefixes = search rules in p.fill_prefixes.auto.router)
+    (λ c. let p : tie.After-fill_prefixes = search rules in p.fill_prefixes.auto.asn)
+    (λ c. let p : tie.After-fill_prefixes = search rules in p.fill_prefixes.auto.preference)
+    (λ c. let p : tie.After-fill_prefixes = search rules in p.fill_prefixes.auto.path)
+    (λ c. let p : tie.After-fill_prefixes = search rules in p.fill_prefixes.auto.origin)
+    (λ c. let p : tie.After-fill_prefixes = search rules in p.fill_prefixes.auto.mark)
+    (λ c. let p : tie.After-fill_prefixes = search rules in p.fill_prefixes.auto.med)
+    (λ c. let p : tie.After-fill_prefixes = search rules in p.fill_prefixes.auto.nid)
+    (λ c. let p : tie.After-fill_prefixes = search rules in p.fill_prefixes.auto.peer)
     returns)
