@@ -20,18 +20,18 @@ faults_spec =
     tie.close
     (tie.spec
     (λ c. search rules)
-    (λ c κs. let s : tie.Start = search rules in let m : tie.In-1 = search rules in omega (arith, at_kind s.args.input.now s.args.at m.match.keys1 s.requires))
+    (λ c κs. let s : tie.Start = search rules in let m : tie.In-1 = search rules in omega (arith, at_kind s.args.input.now s.args.at m.in-1.is s.requires))
     (λ c. search rules)
-    (λ c κs. let s : tie.Start = search rules in let m : tie.In-1 = search rules in omega (arith, at_kind s.args.input.now s.args.at m.match.keys1 s.requires))
+    (λ c κs. let s : tie.Start = search rules in let m : tie.In-1 = search rules in omega (arith, at_kind s.args.input.now s.args.at m.in-1.is s.requires))
     (λ c κs. search rules)
     (λ c. search rules)
-    (λ c κs. let s : tie.Start = search rules in let m : tie.In-2 = search rules in omega (arith, at_kind s.args.input.now s.args.at m.match.keys2 s.requires))
+    (λ c κs. let s : tie.Start = search rules in let m : tie.In-2 = search rules in omega (arith, at_kind s.args.input.now s.args.at m.in-2.is s.requires))
     (λ c. search rules)
-    (λ c κs. let s : tie.Start = search rules in let m : tie.In-2 = search rules in omega (arith, at_kind s.args.input.now s.args.at m.match.keys2 s.requires))
+    (λ c κs. let s : tie.Start = search rules in let m : tie.In-2 = search rules in omega (arith, at_kind s.args.input.now s.args.at m.in-2.is s.requires))
     (λ c κs. search rules)
     (λ c κs. search rules)
     (λ c. search rules)
-    (λ c κs. let s : tie.Start = search rules in let m : tie.In-3 = search rules in omega (arith, at_kind s.args.input.now s.args.at m.match.keys3 s.requires))
+    (λ c κs. let s : tie.Start = search rules in let m : tie.In-3 = search rules in omega (arith, at_kind s.args.input.now s.args.at m.in-3.is s.requires))
     (λ c κs. search rules)
     (λ c κs. search rules)
     (λ c.
@@ -41,7 +41,7 @@ faults_spec =
     let p : tie.After-get32 = search rules in
     let a = s.args in
     c.session_faults.ensures ∙ ap₂ (λ (r p : ℕ). finding (session_faults a.k r p)) r.get8.ensures p.get32.ensures
-    ∙ sym (ap (λ (n : ℕ). finding (faults_of n a.k a.input.now a.at)) m.match.keys1))
+    ∙ sym (ap (λ (n : ℕ). finding (faults_of n a.k a.input.now a.at)) m.in-1.is))
     (λ c.
     let s : tie.Start = search rules in
     let m : tie.In-2 = search rules in
@@ -51,7 +51,7 @@ faults_spec =
     let a = s.args in
     c.field.ensures
     ∙ ap (λ (b : Bool). finding ((not b else Field) ∷ [])) (b.prefix_bad.ensures ∙ ap₂ (λ (a b : ℕ). any_of (prefix_tests a b)) p.get32-in-2.ensures n.get8-in-2.ensures)
-    ∙ sym (ap (λ (n : ℕ). finding (faults_of n a.k a.input.now a.at)) m.match.keys2))
+    ∙ sym (ap (λ (n : ℕ). finding (faults_of n a.k a.input.now a.at)) m.in-2.is))
     (λ c.
     let s : tie.Start = search rules in
     let m : tie.In-3 = search rules in
@@ -60,8 +60,8 @@ faults_spec =
     let a = s.args in
     c.field-in-3.ensures
     ∙ ap (λ (b : Bool). finding ((not b else Field) ∷ [])) (b.clause_asn_bad.ensures ∙ ap (λ (n : ℕ). any_of (clause_asn_tests n)) p.get32-in-3.ensures)
-    ∙ sym (ap (λ (n : ℕ). finding (faults_of n a.k a.input.now a.at)) m.match.keys3))
+    ∙ sym (ap (λ (n : ℕ). finding (faults_of n a.k a.input.now a.at)) m.in-3.is))
     (λ c.
     let s : tie.Start = search rules in
-    let n = c.match.rest in
+    let n = c.in_default.in_default-own.rest in
     no_faults s.args.input.now s.args.at s.args.k n.0.0.1 n.0.1 n.1))

@@ -10,11 +10,11 @@ one_record_spec =
     tie.close
     (tie.spec
     (λ c κs. search rules)
-    (λ c κs. let s : tie.Start = search rules in let k : tie.After-kind_at-kind = search rules in (s.requires, session_listed, sym k.kind_at-kind.ensures ∙ c.match.keys1))
-    (λ c κs. let s : tie.Start = search rules in let k : tie.After-kind_at-kind = search rules in (s.requires, exact_listed, sym k.kind_at-kind.ensures ∙ c.match.keys2))
-    (λ c κs. let s : tie.Start = search rules in let k : tie.After-kind_at-kind = search rules in (s.requires, direct_listed, sym k.kind_at-kind.ensures ∙ c.match.keys3))
-    (λ c κs. let s : tie.Start = search rules in let k : tie.After-kind_at-kind = search rules in (s.requires, any_listed, sym k.kind_at-kind.ensures ∙ c.match.keys4))
-    (λ c κs. let s : tie.Start = search rules in let k : tie.After-kind_at-kind = search rules in (s.requires, zero_listed, sym k.kind_at-kind.ensures ∙ c.match.keys5))
+    (λ c κs. let s : tie.Start = search rules in let k : tie.After-kind_at-kind = search rules in (s.requires, session_listed, sym k.kind_at-kind.ensures ∙ c.in-1.is))
+    (λ c κs. let s : tie.Start = search rules in let k : tie.After-kind_at-kind = search rules in (s.requires, exact_listed, sym k.kind_at-kind.ensures ∙ c.in-2.is))
+    (λ c κs. let s : tie.Start = search rules in let k : tie.After-kind_at-kind = search rules in (s.requires, direct_listed, sym k.kind_at-kind.ensures ∙ c.in-3.is))
+    (λ c κs. let s : tie.Start = search rules in let k : tie.After-kind_at-kind = search rules in (s.requires, any_listed, sym k.kind_at-kind.ensures ∙ c.in-4.is))
+    (λ c κs. let s : tie.Start = search rules in let k : tie.After-kind_at-kind = search rules in (s.requires, zero_listed, sym k.kind_at-kind.ensures ∙ c.in-5.is))
     (λ c κs. search rules)
     (λ c. search rules)
     (λ c. search rules)
