@@ -14,15 +14,15 @@ clause_size_spec =
     (λ c κs. search rules)
     (λ c.
     let s : tie.Start = search rules in
-    let k : tie.After-kind-at = search rules in
-    sym (ap (λ (c : Clause). size (clause_form c)) (clause_exact s.args.policy.now s.args.at (sym k.kind_at.ensures ∙ c.if1.true))))
+    let k : tie.After-kind_at-kind = search rules in
+    sym (ap (λ (c : Clause). size (clause_form c)) (clause_exact s.args.policy.now s.args.at (sym k.kind_at-kind.ensures ∙ c.if-kind-eq2.true))))
     (λ c.
     let s : tie.Start = search rules in
-    let k : tie.After-kind-at = search rules in
-    sym (ap (λ (c : Clause). size (clause_form c)) (clause_direct s.args.policy.now s.args.at (sym k.kind_at.ensures ∙ c.if2.true))))
+    let k : tie.After-kind_at-kind = search rules in
+    sym (ap (λ (c : Clause). size (clause_form c)) (clause_direct s.args.policy.now s.args.at (sym k.kind_at-kind.ensures ∙ c.if-kind-eq3.true))))
     (λ c.
     let s : tie.Start = search rules in
-    let k : tie.After-kind-at = search rules in
-    let e : tie.Else1 = search rules in
+    let k : tie.After-kind_at-kind = search rules in
+    let e : tie.Else-kind-eq2 = search rules in
     sym (ap (λ (c : Clause). size (clause_form c))
-    (clause_any s.args.policy.now s.args.at (λ q. e.if1.left (k.kind_at.ensures ∙ q)) (λ q. c.if2.false (k.kind_at.ensures ∙ q))))))
+    (clause_any s.args.policy.now s.args.at (λ q. e.if-kind-eq2.false (k.kind_at-kind.ensures ∙ q)) (λ q. c.if-kind-eq3.false (k.kind_at-kind.ensures ∙ q))))))

@@ -16,13 +16,13 @@ fits_row_spec =
     (tie.spec
     (λ c.
     let s : tie.Start = search rules in
-    sym (ap (λ (kind : ℕ). fits (clause_by kind s.args.key s.args.long 0) s.args.address s.args.bits s.args.path s.args.neighbour) c.if1.true))
+    sym (ap (λ (kind : ℕ). fits (clause_by kind s.args.key s.args.long 0) s.args.address s.args.bits s.args.path s.args.neighbour) c.if-kind-eq2.true))
     (λ c.
     let s : tie.Start = search rules in
-    sym (ap (λ (kind : ℕ). fits (clause_by kind s.args.key s.args.long 0) s.args.address s.args.bits s.args.path s.args.neighbour) c.if2.true))
+    sym (ap (λ (kind : ℕ). fits (clause_by kind s.args.key s.args.long 0) s.args.address s.args.bits s.args.path s.args.neighbour) c.if-kind-eq3.true))
     (λ c.
     let s : tie.Start = search rules in
-    let e : tie.Else1 = search rules in
+    let e : tie.Else-kind-eq2 = search rules in
     sym (ap₂
     (λ (a b : Bool). fits (cond a (exact s.args.key s.args.long 0) (cond b (direct s.args.key 0) (any 0))) s.args.address s.args.bits s.args.path s.args.neighbour)
-    (ne_eqb s.args.kind 2 e.if1.left) (ne_eqb s.args.kind 3 c.if2.false))))
+    (ne_eqb s.args.kind 2 e.if-kind-eq2.false) (ne_eqb s.args.kind 3 c.if-kind-eq3.false))))

@@ -14,6 +14,6 @@ is_clause_spec =
     (λ c κs. search rules)
     (λ c.
     let s : tie.Start = search rules in
-    let n : tie.After-clause-size = search rules in
-    omega (arith, n.clause-size.ensures, (size_bounds (clause_at s.args.policy.now s.args.at)).1))
+    let n : tie.After-clause_size = search rules in
+    omega (arith, n.clause_size.ensures, (size_bounds (clause_at s.args.policy.now s.args.at)).1))
     (λ c. cc))

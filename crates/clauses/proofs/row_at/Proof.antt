@@ -28,5 +28,5 @@ row_at_spec =
     let s : tie.Start = search rules in
     let k : tie.After-get8 = search rules in
     let a : tie.After-get32 = search rules in
-    let l : tie.After-length-at = search rules in
-    clause_parts s.args.policy.now s.args.at (clause_known s.args.policy.now s.args.at s.pre.0) k.get8.ensures a.get32.ensures l.length_at.ensures s.pre.1 c.get322.ensures))
+    let l : tie.After-length_at = search rules in
+    clause_parts s.args.policy.now s.args.at (clause_known s.args.policy.now s.args.at s.requires.0) k.get8.ensures a.get32.ensures l.length_at.ensures s.requires.1 c.get32-2.ensures))

@@ -34,12 +34,12 @@ session_at_spec =
     (λ c. let s : tie.Start = search rules in omega (arith, whole s))
     (λ c κs. let s : tie.Start = search rules in omega (arith, whole s))
     (λ c. search rules)
-    (λ c. let k : tie.After-kind-at = search rules in omega (arith, bytes-few (eqb k.kind_at.result 5)))
-    (λ c. let s : tie.Start = search rules in let k : tie.After-kind-at = search rules in omega (arith, whole s, bytes-few (eqb k.kind_at.result 5)))
+    (λ c. let k : tie.After-kind_at-zero = search rules in omega (arith, bytes-few (eqb k.kind_at-zero.result 5)))
+    (λ c. let s : tie.Start = search rules in let k : tie.After-kind_at-zero = search rules in omega (arith, whole s, bytes-few (eqb k.kind_at-zero.result 5)))
     (λ c.
     let s : tie.Start = search rules in
-    let k : tie.After-kind-at = search rules in
+    let k : tie.After-kind_at-zero = search rules in
     let g : tie.After-get8 = search rules in
-    let first : s.args.at + 6 + bool_byte (eqb k.kind_at.result 5) * 1 ≡ s.args.at + 6 + cond (eqb (get_or s.args.policy.now (s.args.at + 6) 0) 5) 1 0 =
-    ap (λ (n : ℕ). s.args.at + 6 + n) (bytes-are (eqb k.kind_at.result 5) ∙ ap (λ (n : ℕ). cond (eqb n 5) 1 0) k.kind_at.ensures) in
-    λ i. record { router = g.get8.ensures i; peer = c.get32.ensures i; zero = eqb (k.kind_at.ensures i) 5; first = first i }))
+    let first : s.args.at + 6 + bool_byte (eqb k.kind_at-zero.result 5) * 1 ≡ s.args.at + 6 + cond (eqb (get_or s.args.policy.now (s.args.at + 6) 0) 5) 1 0 =
+    ap (λ (n : ℕ). s.args.at + 6 + n) (bytes-are (eqb k.kind_at-zero.result 5) ∙ ap (λ (n : ℕ). cond (eqb n 5) 1 0) k.kind_at-zero.ensures) in
+    λ i. record { router = g.get8.ensures i; peer = c.get32.ensures i; zero = eqb (k.kind_at-zero.ensures i) 5; first = first i }))
