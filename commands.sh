@@ -12,53 +12,55 @@ readable() {
     realpath -s "$1"
 }
 
-# crates PROGRAM: how many crates of crates.txt the program is made of.
+# crates PROGRAM: the crates of crates.txt that the program is made of, in the order in which rt proves them: each behind those that
+# it uses.
 crates() {
-    awk -v program="$1" '
+    awk -v program="$1" -F: '
         function need(name,    used, k, n) {
             if (!(name in uses) || name in needed) return
             needed[name] = 1
-            count++
             n = split(uses[name], used, " ")
             for (k = 1; k <= n; k++) need(used[k])
+            print name
         }
-        /^[^#:]+:/ { name = $1; sub(/:$/, "", name); $1 = ""; uses[name] = $0 }
-        END { need(program); print count }' crates.txt
-}
-
-# The crate that rt began last: it keeps what it finds of each in a file of its own.
-begun() {
-    ls -t target/log/*.out 2> /dev/null | sed -n '1 { s|.*/||; s|\.out$||; p }'
+        /^[^#:]+:/ { split($1, words, " "); uses[words[1]] = $2 }
+        END { need(program) }' crates.txt
 }
 
 # progress PROGRAM: tells how far the proving has come. On a terminal that is one line, written anew in each second in which
 # rt says nothing; elsewhere a line for each crate that had to be proved.
 progress() {
-    local all line status proved=0
-    all=$(crates "$1")
+    local all crate='' place=0 begun=0 line status k
+    mapfile -t all < <(crates "$1")
     while :; do
         status=0
         read -r -t 1 line || status=$?
         if [[ $status -gt 128 ]]; then
-            [[ ! -t 2 ]] || printf '\r\e[Kproving crate %d of %d: %s' $((proved + 1)) "$all" "$(begun)" >&2
+            [[ ! -t 2 || -z $crate ]] ||
+                printf '\r\e[Kproving crate %d of %d: %s' "$place" ${#all[@]} "$crate" >&2
         elif [[ $status -ne 0 ]]; then
             break
-        elif [[ $line =~ ^rt:\ ([A-Za-z0-9_]+)\ proved\ \((.*)\)$ ]]; then
-            proved=$((proved + 1))
-            if [[ ! -t 2 && ${BASH_REMATCH[2]} == *' s' ]]; then
-                echo "proved $proved of $all crates: ${BASH_REMATCH[1]} (${BASH_REMATCH[2]})" >&2
-            fi
+        elif [[ $line =~ ^rt:\ chose\ --jobs\ [0-9]+\ for\ ([A-Za-z0-9_]+)$ ]]; then
+            crate=${BASH_REMATCH[1]} begun=$SECONDS
+            for ((k = 0; k < ${#all[@]}; k++)); do
+                [[ ${all[k]} != "$crate" ]] || place=$((k + 1))
+            done
+        elif [[ $line == 'logic=proved '* && -n $crate ]]; then
+            [[ -t 2 ]] || echo "proved $place of ${#all[@]} crates: $crate ($((SECONDS - begun)) s)" >&2
+            crate=''
         fi
     done
     [[ ! -t 2 ]] || printf '\r\e[K' >&2
 }
 
-# prove PROGRAM: proves the program and builds it, where that is not yet done, or shows what rt said and ends.
+# prove PROGRAM: proves the program and builds it, where that is not yet done, or shows what rt said and ends. rt also runs it, here
+# on no input, and ends with its status: that it came to this is what says that all is proved and built.
 prove() {
-    local log=target/$1.log
+    local log=$PWD/target/$1.log
     mkdir -p target
-    [[ -x target/bin/$1 ]] || echo "proving and building: this takes some minutes the first time" >&2
-    if ! rt check "$1" < /dev/null 2>&1 | tee "$log" | progress "$1"; then
+    [[ -x crates/$1/out/$1 ]] || echo "proving and building: this takes some minutes the first time" >&2
+    (cd "crates/$1" && rt run < /dev/null 2>&1 > /dev/null) | tee "$log" | progress "$1" || true
+    if ! grep -q "^rt: running out/$1;" "$log"; then
         cat "$log" >&2
         exit 1
     fi
@@ -69,5 +71,5 @@ prove() {
 run() {
     local emulator=()
     [[ $(uname -m) == x86_64 ]] || emulator=(qemu-x86_64 -L /usr/x86_64-linux-gnu)
-    "${emulator[@]}" "target/bin/$1" "${@:2}"
+    "${emulator[@]}" "crates/$1/out/$1" "${@:2}"
 }

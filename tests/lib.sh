@@ -40,30 +40,32 @@ cargo_tests() {
     fi
 }
 
-# added COMMAND ..: runs a command whose last line is 'N passed, M failed' and adds both to the sum.
-# One that cannot be run, ends otherwise, or ends badly with no failure counted, is a failure itself.
+# added COMMAND ..: runs a command whose last line is 'N passed, M failed' and adds both to the sum. What it says is kept in
+# the file $said, where the caller names one.
+# One that cannot be run, ends otherwise, or ends badly with no failure counted, is a failure itself. Behind the numbers rt may
+# say in brackets what they are of.
 added() {
     local log status last
     echo "== $*"
-    log=$(mktemp)
+    log=${said:-$(mktemp)}
     "$@" 2>&1 | tee "$log"
     status=${PIPESTATUS[0]}
     last=$(tail -n 1 "$log")
-    if [[ $last =~ ^([0-9]+)\ passed,\ ([0-9]+)\ failed$ && ($status -eq 0 || ${BASH_REMATCH[2]} -gt 0) ]]; then
+    if [[ $last =~ ^([0-9]+)\ passed,\ ([0-9]+)\ failed(\ \(.*\))?$ && ($status -eq 0 || ${BASH_REMATCH[2]} -gt 0) ]]; then
         passed=$((passed + BASH_REMATCH[1]))
         failed=$((failed + BASH_REMATCH[2]))
     else
         echo "FAILED: $1 did not run to its end (exit status $status)"
         failed=$((failed + 1))
     fi
-    rm -f "$log"
+    [[ -n ${said:-} ]] || rm -f "$log"
 }
 
-# fresh FILE COMMAND ..: runs the command that makes FILE, unless FILE is there and newer than every crate.
+# fresh FILE COMMAND ..: runs the command that makes FILE, unless FILE is there and newer than the text of every crate.
 fresh() {
     local file=$1
     shift
-    if [[ ! -e $file || -n $(find crates crates.txt -newer "$file" -print -quit) ]]; then
+    if [[ ! -e $file || -n $(find crates.txt crates/*/src crates/*/specs crates/*/proofs -newer "$file" -print -quit) ]]; then
         "$@" && [[ -e $file ]]
     fi
 }
@@ -76,10 +78,15 @@ else
     emulator=(qemu-x86_64 -L /usr/x86_64-linux-gnu) compiler=x86_64-linux-gnu-gcc symbols=x86_64-linux-gnu-nm
 fi
 
+# within FOLDER COMMAND ..: runs a command in a folder.
+within() {
+    (cd "$1" && "${@:2}")
+}
+
 # library CRATE: prints the name of a crate's static library, which rt makes unless it is there already.
 library() {
-    local file=target/staticlib/lib$1.a
-    fresh "$file" rt staticlib "$1" >&2 && echo "$file"
+    local file=crates/$1/out/lib$1.a
+    fresh "$file" within "crates/$1" rt lib >&2 && echo "$file"
 }
 
 # runnable FILE: prints the name of a file that runs a program for x86-64: itself, or a script that hands it to the emulator.
@@ -92,9 +99,18 @@ runnable() {
     echo "$script"
 }
 
+# make_program NAME: has rt prove, build and link a program. rt also runs it, here on no input, and ends with its status, which
+# says nothing of the proof: the stamp does, which rt leaves beside what it built of proved text.
+make_program() {
+    rm -f "crates/$1/out/$1.stamp"
+    within "crates/$1" rt run < /dev/null > /dev/null
+    [[ -e crates/$1/out/$1.stamp ]]
+}
+
 # program NAME: prints the name of a file that runs a proved program, which rt makes unless it is there already.
 program() {
-    fresh "target/bin/$1" rt check "$1" >&2 && runnable "target/bin/$1"
+    local file=crates/$1/out/$1
+    fresh "$file" make_program "$1" >&2 && runnable "$file"
 }
 
 # link_calls: says which libraries with the proved calls the cargo workspace links, where the caller has not said so.
@@ -118,12 +134,12 @@ stand_in() {
         ar rcs "$to/libcalls.a" "$to/stand_in.o"
 }
 
-# copy_tree DIR: puts the files of the repository as they stand, and what rt has proved of them, into a directory.
+# copy_tree DIR: puts the files of the repository as they stand into a directory. What rt has proved of them it finds again by
+# itself: it looks for what it kept of the same files in other copies on the machine.
 copy_tree() {
     git ls-files -z --cached --others --exclude-standard | while IFS= read -rd '' file; do
         [[ ! -e $file ]] || printf '%s\0' "$file"
     done | tar --null -cf - -T - | tar -xf - -C "$1"
-    [[ ! -d target ]] || cp -r target "$1/target"
 }
 
 # give_up WHY: ends a script that lacks what it is to test, as a failure.

@@ -3,7 +3,7 @@
 use std::path::Path;
 
 fn main() {
-    let named = std::env::var("BARRIEROSE_MEASURE").unwrap_or("target/staticlib/libmeasure.a".to_string());
+    let named = std::env::var("BARRIEROSE_MEASURE").unwrap_or("crates/measure/out/libmeasure.a".to_string());
     let library = Path::new("../..").join(&named).canonicalize().unwrap_or_else(|fault| panic!("{named}: {fault}"));
     let (folder, file) =
         (library.parent().expect("a file is in a folder"), library.file_name().expect("it has a name"));

@@ -3,7 +3,7 @@
 use std::path::Path;
 
 fn main() {
-    let named = std::env::var("BARRIEROSE_HOST").unwrap_or("target/staticlib/libhost.a".to_string());
+    let named = std::env::var("BARRIEROSE_HOST").unwrap_or("crates/host/out/libhost.a".to_string());
     let library = Path::new("../..").join(&named).canonicalize().unwrap_or_else(|fault| panic!("{named}: {fault}"));
     println!("cargo:rerun-if-env-changed=BARRIEROSE_HOST");
     println!("cargo:rerun-if-changed={}", library.display());
