@@ -1,5 +1,6 @@
 // The forecast of one prefix from the bytes of a snapshot: only what that prefix is decided on is put into tables.
 #![tactic(auto)]
+
 ghost use Rattle.std.specs.Prelude.{◌≡◌, ◌≤◌, length};
 ghost use Rattle.snapshot.specs.Limits.{most_in_prefix};
 ghost use Rattle.fill.specs.Fill.{behind_routes};

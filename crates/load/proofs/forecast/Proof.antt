@@ -30,7 +30,7 @@ forecast_spec =
     (λ c. search rules)
     (λ c κs.
     let s : tie.Start = search rules in
-    (s.pre.0, record { ids_long = omega arith; distances_long = omega arith; rows = record { router = omega arith; asn = omega arith; preference = omega arith; path = omega arith; origin = omega arith; med = omega arith; nid = omega arith; peer = omega arith } }, s.pre.1))
+    (s.requires.0, record { ids_long = omega arith; distances_long = omega arith; rows = record { router = omega arith; asn = omega arith; preference = omega arith; path = omega arith; origin = omega arith; med = omega arith; nid = omega arith; peer = omega arith } }, s.requires.1))
     (λ c. search rules)
     (λ c. search rules)
     (λ c. search rules))
