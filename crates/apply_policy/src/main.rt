@@ -1,10 +1,14 @@
 // The program: a snapshot and a policy from two files, the rewritten snapshot to standard output. A refusal, and whatever else goes wrong,
 // is said on standard error, and nothing is written to standard output.
 #![tactic(auto)]
+
 ghost use Rattle.std.specs.Prelude.{◌≤◌, length};
 
 use refusal::Refusal;
 use revise::Revised;
+use std::env::{Env, FillError};
+use std::io::Read;
+use std::{fs, io, str};
 
 // What is read of each file at most: one byte more than the longest snapshot and the longest policy, since so many decide the answer.
 const SNAPSHOT: usize = snapshot::LONGEST + 1;
@@ -14,6 +18,9 @@ const POLICY: usize = 20934;
 // No line of a refusal has more bytes.
 const LINE: usize = 64;
 
+// No file name is longer.
+const NAME: usize = 4096;
+
 // What was read of a file: so many bytes; or it could not be read, and that was said.
 #[derive(Clone, Copy)]
 enum Got {
@@ -22,78 +29,113 @@ enum Got {
 }
 
 // Says a refusal on standard error.
-fn say_refused(what: &[u8], r: Refusal, place: usize)
+fn say_refused(rt: &HostRuntime, what: &[u8], r: Refusal, place: usize)
     requires { length what.now ≤ 32 }
 {
     let mut line = [0u8; LINE];
     let end = lines::put_refusal(&mut line, 0, what, refusal::number(r), place);
-    io::write_all(libc::STDERR_FILENO, &line[..end]);
+    let _ = rt.stderr().write_all(&line[..end]);
+}
+
+// Says on standard error why a file cannot be read: its name and the system's words, without the number of the error.
+fn say_unreadable(rt: &HostRuntime, name: &str, error: &io::Error) {
+    let Ok(said) = format!(in rt.alloc(); "{error}") else {
+        let _ = eprintln!(rt; "{name}: {error}");
+        return;
+    };
+    match said.as_str().split_once(" (os error ") {
+        Some((words, _)) => {
+            let _ = eprintln!(rt; "{name}: {words}");
+        }
+        None => {
+            let _ = eprintln!(rt; "{name}: {said}");
+        }
+    }
+}
+
+// Reads until the buffer is full, the input ends or a read fails, and answers how many bytes were read.
+fn read_full(input: &mut impl Read, buf: &mut [u8]) -> usize
+    ensures { result ≤ length buf.new }
+{
+    let mut done = 0;
+    while done < buf.len() {
+        match input.read(&mut buf[done..]) {
+            Ok(n) if 0 < n => done += n,
+            _ => break,
+        }
+    }
+    done
 }
 
 // Reads a file, as much of it as the buffer holds. A last read tells its end from a read that failed.
-fn read_file(name: &[u8], buf: &mut [u8]) -> Got {
-    let fd = os::open_read(name);
-    if fd < 0 {
-        os::fail(name);
-        return Got::Nothing;
-    }
-    let n = io::read_full(fd, buf);
+fn read_file(rt: &HostRuntime, name: &str, buf: &mut [u8]) -> Got {
+    let mut file = match fs::open(rt, name) {
+        Ok(file) => file,
+        Err(e) => {
+            say_unreadable(rt, name, &e);
+            return Got::Nothing;
+        }
+    };
+    let n = read_full(&mut file, buf);
     let mut more = [0u8; 1];
-    let left = libc::read(fd, &mut more);
-    if left < 0 {
-        os::fail(name);
+    if let Err(e) = file.read(&mut more) {
+        say_unreadable(rt, name, &e);
         return Got::Nothing;
     }
     Got::Bytes(n)
 }
 
-// Reads the file that an argument names.
-fn read_argument(i: usize, buf: &mut [u8]) -> Got {
-    let mut name = io::buffer();
-    let n = os::arg(i, &mut name);
-    if n == 0 {
-        io::write_all(
-            libc::STDERR_FILENO,
-            b"apply_policy: a file name is empty or too long\n",
-        );
-        return Got::Nothing;
+// Reads the file that an argument names. Files are found by names in UTF-8 alone.
+fn read_argument(rt: &HostRuntime, i: usize, buf: &mut [u8]) -> Got {
+    let mut name = [0u8; NAME];
+    match rt.arg(i, &mut name) {
+        Ok(n) if 0 < n => match str::from_utf8(&name[..n]) {
+            Ok(text) => read_file(rt, text, buf),
+            Err(_) => {
+                let _ = rt.eprintln("apply_policy: a file name is not UTF-8");
+                Got::Nothing
+            }
+        },
+        _ => {
+            let _ = rt.eprintln("apply_policy: a file name is empty or too long");
+            Got::Nothing
+        }
     }
-    read_file(&name[..n], buf)
+}
+
+// Whether there is an argument of this index. The program's name has index 0.
+fn has_argument(rt: &HostRuntime, i: usize) -> bool {
+    let mut first = [0u8; 1];
+    !matches!(rt.arg(i, &mut first), Err(FillError::NotPresent))
 }
 
 // Writes the rewritten snapshot, by way of a buffer in which any fits.
-fn print(snapshot: &[u8], policy: &[u8], out: &mut [u8]) {
+fn print(rt: &HostRuntime, snapshot: &[u8], policy: &[u8], out: &mut [u8]) {
     match revise::revise(snapshot, policy, out) {
-        Revised::SnapshotRefused(r, at) => say_refused(b"refused snapshot ", r, at),
-        Revised::PolicyRefused(r, at) => say_refused(b"refused policy ", r, at),
+        Revised::SnapshotRefused(r, at) => say_refused(rt, b"refused snapshot ", r, at),
+        Revised::PolicyRefused(r, at) => say_refused(rt, b"refused policy ", r, at),
         Revised::Rewritten => {
             if out.len() < snapshot.len() {
                 return;
             }
-            if !io::write_all(libc::STDOUT_FILENO, &out[..snapshot.len()]) {
-                io::write_all(
-                    libc::STDERR_FILENO,
-                    b"apply_policy: the snapshot could not be written\n",
-                );
+            if rt.write_all(&out[..snapshot.len()]).is_err() {
+                let _ = rt.eprintln("apply_policy: the snapshot could not be written");
             }
         }
     }
 }
 
-fn main() {
-    if os::arg_count() != 3 {
-        io::write_all(
-            libc::STDERR_FILENO,
-            b"apply_policy: two files are needed, SNAPSHOT and POLICY\n",
-        );
+fn main(rt: HostRuntime) {
+    if !has_argument(&rt, 2) || has_argument(&rt, 3) {
+        let _ = rt.eprintln("apply_policy: two files are needed, SNAPSHOT and POLICY");
         return;
     }
     let mut snapshot = [0u8; SNAPSHOT];
     let mut policy = [0u8; POLICY];
     let mut out = [0u8; SNAPSHOT];
-    match read_argument(1, &mut snapshot) {
+    match read_argument(&rt, 1, &mut snapshot) {
         Got::Nothing => {}
-        Got::Bytes(n) => match read_argument(2, &mut policy) {
+        Got::Bytes(n) => match read_argument(&rt, 2, &mut policy) {
             Got::Nothing => {}
             Got::Bytes(m) => {
                 if SNAPSHOT < n {
@@ -102,7 +144,7 @@ fn main() {
                 if POLICY < m {
                     return;
                 }
-                print(&snapshot[..n], &policy[..m], &mut out);
+                print(&rt, &snapshot[..n], &policy[..m], &mut out);
             }
         },
     }

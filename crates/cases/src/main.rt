@@ -5,6 +5,7 @@
 // tests/cases makes the files, from texts in the notation of `second`. What the program has to print, its `stdout`, was written by hand
 // from document 01, and tests/cases holds it against what `second` says of the files.
 #![tactic(auto)]
+
 ghost use Rattle.std.specs.Prelude.{◌≡◌, ◌++◌, suc, ◌+◌, ◌≤◌, length};
 ghost use Rattle.snapshot.specs.Limits.{most_routes, longest};
 ghost use Rattle.snapshot.specs.Tables.{columns, tables};
@@ -17,6 +18,7 @@ ghost use Rattle.cases.specs.Cases.{Kept, finding, found, accepted_line, finding
 use refusal::Refusal;
 use scan::Read;
 use snapshot::Counts;
+use std::{fs, io};
 use text::{put_decimal, put_text};
 use writer::Write;
 
@@ -60,7 +62,7 @@ fn written_as(
         counts, ids, distances, address, bits, routes, router, asn, preference, path, origin, mark,
         med, nid, peer, again,
     ) {
-        Write::Written(n) => check::same(&again[..n], input),
+        Write::Written(n) => &again[..n] == input,
         Write::Refused(_, _) => false,
     }
 }
@@ -194,147 +196,178 @@ fn put_line(out: &mut [u8], name: &[u8], input: &[u8], peer: &mut [u32]) -> usiz
     }
 }
 
+// Says on standard error why a file cannot be read: its name and the system's words, without the number of the error.
+fn say_unreadable(rt: &HostRuntime, name: &str, error: &io::Error) {
+    let Ok(said) = format!(in rt.alloc(); "{error}") else {
+        let _ = eprintln!(rt; "{name}: {error}");
+        return;
+    };
+    match said.as_str().split_once(" (os error ") {
+        Some((words, _)) => {
+            let _ = eprintln!(rt; "{name}: {words}");
+        }
+        None => {
+            let _ = eprintln!(rt; "{name}: {said}");
+        }
+    }
+}
+
+// Reads until the buffer is full, the input ends or a read fails, and answers how many bytes were read.
+fn read_full(input: &mut impl io::Read, buf: &mut [u8]) -> usize
+    ensures { result ≤ length buf.new }
+{
+    let mut done = 0;
+    while done < buf.len() {
+        match input.read(&mut buf[done..]) {
+            Ok(n) if 0 < n => done += n,
+            _ => break,
+        }
+    }
+    done
+}
+
 // Reads a file, with room for so many peers, and prints its line.
-fn run(name: &[u8], room: usize)
+fn run(rt: &HostRuntime, name: &str, room: usize)
     requires { (length name.now + 1 + widest ≤ widest_line) × (room ≤ most_routes) }
 {
-    let from = os::open_read(name);
-    if from < 0 {
-        os::fail(name);
-        return;
-    }
+    let mut file = match fs::open(rt, name) {
+        Ok(file) => file,
+        Err(e) => {
+            say_unreadable(rt, name, &e);
+            return;
+        }
+    };
     let mut input = [0u8; INPUT];
-    let n = io::read_full(from, &mut input);
-    libc::close(from);
+    let n = read_full(&mut file, &mut input);
     let mut peer = [0u32; snapshot::MOST_ROUTES as usize];
     let mut out = [0u8; LINE];
-    let end = put_line(&mut out, name, &input[..n], &mut peer[..room]);
-    io::write_all(libc::STDOUT_FILENO, &out[..end]);
+    let end = put_line(&mut out, name.as_bytes(), &input[..n], &mut peer[..room]);
+    let _ = rt.write_all(&out[..end]);
 }
 
 // Reads a file, where each table has room for its limit.
-fn case(name: &[u8])
+fn case(rt: &HostRuntime, name: &str)
     requires { length name.now + 1 + widest ≤ widest_line }
 {
-    run(name, snapshot::MOST_ROUTES as usize);
+    run(rt, name, snapshot::MOST_ROUTES as usize);
 }
 
 // The inputs of document 01: the sums on paper, then those to be run.
-fn document() {
-    case(b"p1");
-    case(b"p2");
-    case(b"p3");
-    case(b"p4");
-    case(b"p5");
-    case(b"p6");
-    case(b"p7");
-    case(b"p8");
-    case(b"p9");
-    case(b"p10");
-    case(b"p11");
-    case(b"empty");
-    case(b"byte-1");
-    case(b"distance-16777215");
-    case(b"distance-16777216");
-    case(b"as-65534");
-    case(b"as-65535");
-    case(b"routes-256");
-    case(b"routes-257");
-    case(b"prefix-10.0.0.1-24");
+fn document(rt: &HostRuntime) {
+    case(rt, "p1");
+    case(rt, "p2");
+    case(rt, "p3");
+    case(rt, "p4");
+    case(rt, "p5");
+    case(rt, "p6");
+    case(rt, "p7");
+    case(rt, "p8");
+    case(rt, "p9");
+    case(rt, "p10");
+    case(rt, "p11");
+    case(rt, "empty");
+    case(rt, "byte-1");
+    case(rt, "distance-16777215");
+    case(rt, "distance-16777216");
+    case(rt, "as-65534");
+    case(rt, "as-65535");
+    case(rt, "routes-256");
+    case(rt, "routes-257");
+    case(rt, "prefix-10.0.0.1-24");
 }
 
 // Document 02, request b: the neighbour AS at its borders, in both kinds, and both kinds below one prefix.
-fn neighbour_as() {
-    case(b"as-1");
-    case(b"as-23455");
-    case(b"as-23456");
-    case(b"as-23457");
-    case(b"as-65536");
-    case(b"as-4294967294");
-    case(b"as-4294967295");
-    case(b"long-as-0");
-    case(b"long-as-1");
-    case(b"long-as-23456");
-    case(b"long-as-65534");
-    case(b"long-as-65535");
-    case(b"both-kinds");
-    case(b"short-then-long-falls");
-    case(b"long-then-short-falls");
-    case(b"long-cut-in-its-as");
-    case(b"long-cut-by-a-byte");
-    case(b"long-route-without-prefix");
-    case(b"routes-257-of-both-kinds");
+fn neighbour_as(rt: &HostRuntime) {
+    case(rt, "as-1");
+    case(rt, "as-23455");
+    case(rt, "as-23456");
+    case(rt, "as-23457");
+    case(rt, "as-65536");
+    case(rt, "as-4294967294");
+    case(rt, "as-4294967295");
+    case(rt, "long-as-0");
+    case(rt, "long-as-1");
+    case(rt, "long-as-23456");
+    case(rt, "long-as-65534");
+    case(rt, "long-as-65535");
+    case(rt, "both-kinds");
+    case(rt, "short-then-long-falls");
+    case(rt, "long-then-short-falls");
+    case(rt, "long-cut-in-its-as");
+    case(rt, "long-cut-by-a-byte");
+    case(rt, "long-route-without-prefix");
+    case(rt, "routes-257-of-both-kinds");
 }
 
 // Snapshots with the least and the most of something.
-fn limits() {
-    case(b"no-prefixes");
-    case(b"prefix-lengths");
-    case(b"no-routes-between");
-    case(b"meds");
-    case(b"least");
-    case(b"greatest");
-    case(b"greatest-long");
-    case(b"prefixes-64");
-    case(b"longest");
+fn limits(rt: &HostRuntime) {
+    case(rt, "no-prefixes");
+    case(rt, "prefix-lengths");
+    case(rt, "no-routes-between");
+    case(rt, "meds");
+    case(rt, "least");
+    case(rt, "greatest");
+    case(rt, "greatest-long");
+    case(rt, "prefixes-64");
+    case(rt, "longest");
 }
 
 // CUT, KIND, PLACE.
-fn cut_kind_place() {
-    case(b"p5-less-one");
-    case(b"p5-cut-in-a-route");
-    case(b"no-end");
-    case(b"kind-0");
-    case(b"kind-8");
-    case(b"kind-255");
-    case(b"end-first");
-    case(b"router-late");
-    case(b"route-without-prefix");
+fn cut_kind_place(rt: &HostRuntime) {
+    case(rt, "p5-less-one");
+    case(rt, "p5-cut-in-a-route");
+    case(rt, "no-end");
+    case(rt, "kind-0");
+    case(rt, "kind-8");
+    case(rt, "kind-255");
+    case(rt, "end-first");
+    case(rt, "router-late");
+    case(rt, "route-without-prefix");
 }
 
 // FIELD.
-fn field() {
-    case(b"routers-0");
-    case(b"routers-65");
-    case(b"router-id-0");
-    case(b"prefix-33");
-    case(b"route-of-nobody");
-    case(b"as-0");
-    case(b"path-0");
-    case(b"origin-3");
-    case(b"mark-2");
-    case(b"med-without-mark");
-    case(b"neighbour-id-0");
-    case(b"peer-0");
+fn field(rt: &HostRuntime) {
+    case(rt, "routers-0");
+    case(rt, "routers-65");
+    case(rt, "router-id-0");
+    case(rt, "prefix-33");
+    case(rt, "route-of-nobody");
+    case(rt, "as-0");
+    case(rt, "path-0");
+    case(rt, "origin-3");
+    case(rt, "mark-2");
+    case(rt, "med-without-mark");
+    case(rt, "neighbour-id-0");
+    case(rt, "peer-0");
 }
 
 // ORDER, TWIN, FULL.
-fn order_twin_full() {
-    case(b"router-skipped");
-    case(b"equal-pair");
-    case(b"prefix-twice");
-    case(b"p5-route-moved");
-    case(b"twin-ids");
-    case(b"prefix-65");
-    case(b"routes-1025");
+fn order_twin_full(rt: &HostRuntime) {
+    case(rt, "router-skipped");
+    case(rt, "equal-pair");
+    case(rt, "prefix-twice");
+    case(rt, "p5-route-moved");
+    case(rt, "twin-ids");
+    case(rt, "prefix-65");
+    case(rt, "routes-1025");
 }
 
 // COUNT, TAIL.
-fn count_tail() {
-    case(b"p5-counts-16");
-    case(b"p5-routes-joined");
-    case(b"p5-and-one");
-    case(b"longest-and-one");
+fn count_tail(rt: &HostRuntime) {
+    case(rt, "p5-counts-16");
+    case(rt, "p5-routes-joined");
+    case(rt, "p5-and-one");
+    case(rt, "longest-and-one");
 }
 
-fn main() {
-    document();
-    neighbour_as();
-    limits();
-    cut_kind_place();
-    field();
-    order_twin_full();
-    count_tail();
+fn main(rt: HostRuntime) {
+    document(&rt);
+    neighbour_as(&rt);
+    limits(&rt);
+    cut_kind_place(&rt);
+    field(&rt);
+    order_twin_full(&rt);
+    count_tail(&rt);
     // ROOM: a table is one entry short.
-    run(b"p5", snapshot::MOST_ROUTES as usize - 1);
+    run(&rt, "p5", snapshot::MOST_ROUTES as usize - 1);
 }
