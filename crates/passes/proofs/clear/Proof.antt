@@ -24,6 +24,6 @@ clear_spec =
     (λ c.
     let s : tie.Start = search rules in
     let b : tie.After-pick = search rules in
-    let d : tie.After-pick2 = search rules in
+    let d : tie.After-pick-2 = search rules in
     let q = s.args.q in
-    (ap (set s.args.mark.now q) b.pick.ensures, ap (set s.args.med.now q) d.pick2.ensures)))
+    (ap (set s.args.mark.now q) b.pick.ensures, ap (set s.args.med.now q) d.pick-2.ensures)))

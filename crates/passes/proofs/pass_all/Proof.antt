@@ -18,7 +18,7 @@ pass_all_spec =
     (λ c. search rules)
     (λ c κs.
     let s : tie.Start = search rules in
-    (record { kinds = omega arith; keys = omega arith; longs = omega arith; given = omega arith }, s.pre.0, s.pre.1))
+    (record { kinds = omega arith; keys = omega arith; longs = omega arith; given = omega arith }, s.requires.0, s.requires.1))
     (λ c. search rules)
     (λ c. search rules)
     (λ c. search rules)
