@@ -2,6 +2,8 @@
 use borrow.Author.Rules.{rules}
 use native.Mathlib.Omega.{arith}
 use Prim.Native.Nat.{◌-◌}
+use mathlib.Core.Bool.{not}
+use mathlib.Core.Path.{ap}
 use Rattle.clauses.specs.Walking.{apart, session_of}
 use Rattle.policy.specs.Passing.{pass}
 use Rattle.passes.specs.Passes.{seen, of_row}
@@ -41,7 +43,7 @@ pass_spec =
     let a = (begun t).args in
     let h : tie.After-heard invariant-loop-q decreases-loop-q = search rules in
     row_skip (apart a.kind.now a.key.now a.long.now a.gives.now a.count) a.s a.rows a.owner.now a.address.now a.bits.now a.router.now a.asn.now a.preference.now a.path.now a.mark.now a.med.now a.peer.now
-    (begun t).requires.2 t.loop-q.invariant t.loop-q-test.true h.heard.ensures c.if-not-heard.true)
+    (begun t).requires.2 t.loop-q.invariant t.loop-q-test.true h.heard.ensures (ap not c.if-not-heard.true))
     (λ c. search rules)
     (λ c. let t : Turn = search rules in omega (arith, (begun t).requires.1.owners, t.loop-q-test.true))
     (λ c. let t : Turn = search rules in omega (arith, (begun t).requires.1.below _ t.loop-q-test.true))
@@ -68,7 +70,7 @@ pass_spec =
     let e = chosen r in
     let h : tie.After-heard invariant-loop-q decreases-loop-q = search rules in
     row_next (apart a.kind.now a.key.now a.long.now a.gives.now a.count) a.s a.rows a.owner.now a.address.now a.bits.now a.router.now a.asn.now a.preference.now a.path.now a.mark.now a.med.now a.peer.now
-    (begun t).requires.2 t.loop-q.invariant t.loop-q-test.true h.heard.ensures e.if-not-heard.false r.rule.ensures)
+    (begun t).requires.2 t.loop-q.invariant t.loop-q-test.true h.heard.ensures (ap not e.if-not-heard.false) r.rule.ensures)
     (λ c. c.loop-q.invariant.preferences.long)
     (λ c. c.loop-q.invariant.marks.long)
     (λ c. c.loop-q.invariant.meds.long)

@@ -6,7 +6,6 @@ use mathlib.Core.Path.{◌≡◌, refl, sym, ap, ◌∙◌, subst}
 use mathlib.Core.Bool.{true}
 use mathlib.Core.List.{List}
 use lib.ListN.{length}
-use borrow.Author.Tests.{not-true, not-false}
 use Rattle.clauses.specs.declared.Named.{Named}
 use Rattle.clauses.specs.Walking.{is_session, behind_clauses, session_of, session_by}
 use Rattle.clauses.specs.WalkingLaws.{first_within, session_further}
@@ -41,7 +40,7 @@ abbrev turn : tie.Else-not-is_session invariant-loop-at decreases-loop-at → Tu
 turn e = search rules
 
 found : (e : tie.Else-not-is_session invariant-loop-at decreases-loop-at) → is_session (begun (turn e)).args.policy.now (turn e).loop-at.at ≡ true
-found e = sym (there e).is_session.ensures ∙ not-false _ e.if-not-is_session.false
+found e = sym (there e).is_session.ensures ∙ e.if-not-is_session.false
 
 -- and its clauses begin within the file
 abbrev named : tie.After-session_at-s invariant-loop-at decreases-loop-at → tie.Else-not-is_session invariant-loop-at decreases-loop-at
@@ -81,7 +80,7 @@ pass_in_spec =
     (λ c.
     let t : Turn = search rules in
     let i : tie.After-is_session invariant-loop-at decreases-loop-at = search rules in
-    left_stop t.loop-at.invariant.7 (sym i.is_session.ensures ∙ not-true _ c.if-not-is_session.true))
+    left_stop t.loop-at.invariant.7 (sym i.is_session.ensures ∙ c.if-not-is_session.true))
     (λ c κs. found (search rules))
     (λ c κs. first (search rules))
     (λ c κs.
@@ -94,8 +93,8 @@ pass_in_spec =
     let a = read p in
     let t = turn (named a) in
     let i = t.loop-at.invariant in
-    let k = p.take_apart-count.kept.1.1 in (
-      wide_again (begun t).requires.0 p.take_apart-count.ensures.1 (k.0 ∙ i.3) (k.1.0 ∙ i.4) (k.1.1.0 ∙ i.5) (k.1.1.1.0 ∙ i.6),
+    let k = p.take_apart-count.auto in (
+      wide_again (begun t).requires.0 p.take_apart-count.ensures.1 (k.kind ∙ i.3) (k.key ∙ i.4) (k.long ∙ i.5) (k.gives ∙ i.6),
       (begun t).requires.1,
       long_again (begun t).requires.2 i.0 i.1 i.2,
     ))
@@ -115,7 +114,7 @@ pass_in_spec =
     let a = read d in
     let t = turn (named a) in
     let i = t.loop-at.invariant in
-    let k = d.take_apart-count.kept.1.1 in
+    let k = d.take_apart-count.auto in
     let g = (begun t).args in
     let at = t.loop-at in
     let address = of_row g.address.now g.owner.now in
@@ -123,7 +122,7 @@ pass_in_spec =
     let before = seen g.router.now g.asn.now at.preference g.path.now at.mark at.med g.peer.now in
     let one = p.pass.ensures ∙ ap (λ (cs : List Clause). passed (session_of a.session_at-s.result cs) address bits g.rows before) d.take_apart-count.ensures.0 in
     let (x, y, z) = altered_long g.rows (λ q. pass (session_by g.policy.now a.session_at-s.result) (address q) (bits q)) before one in
-    (x ∙ i.0, y ∙ i.1, z ∙ i.2, k.0 ∙ i.3, k.1.0 ∙ i.4, k.1.1.0 ∙ i.5, k.1.1.1.0 ∙ i.6, left_next i.7 (found (named a)) a.session_at-s.ensures b.behind_clauses-at.ensures one))
+    (x ∙ i.0, y ∙ i.1, z ∙ i.2, k.kind ∙ i.3, k.key ∙ i.4, k.long ∙ i.5, k.gives ∙ i.6, left_next i.7 (found (named a)) a.session_at-s.ensures b.behind_clauses-at.ensures one))
     (λ c. c.loop-at.invariant.0)
     (λ c. c.loop-at.invariant.1)
     (λ c. c.loop-at.invariant.2)
