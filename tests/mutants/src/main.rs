@@ -72,8 +72,10 @@ fn bodies(text: &str) -> Vec<Body<'_>> {
         let end = format!("{}}}", " ".repeat(indent(line)));
         let Some(open) = (at..lines.len()).find(|&k| lines[k] == brace || lines[k].ends_with(" {")) else { continue };
         let Some(close) = (open..lines.len()).find(|&k| lines[k] == end) else { continue };
-        let signature: String =
-            lines[at..=open].iter().filter(|l| !l.contains('⌜')).copied().collect::<Vec<_>>().join(" ");
+        let of_contract =
+            |line: &str| ["requires", "ensures", "ghost"].iter().any(|word| line.trim_start().starts_with(word));
+        let signature =
+            lines[at..=open].iter().take_while(|line| !of_contract(line)).copied().collect::<Vec<_>>().join(" ");
         found.push(Body { name, first: open + 1, lines: lines[open + 1..close].to_vec(), types: types(&signature) });
     }
     found
@@ -141,6 +143,14 @@ fn edits(file: &str, body: &Body, seed: u64) -> Vec<Mutant> {
             if !others.is_empty() {
                 let other = others[(chance(seed, &[file, &body.name, line, word]) % others.len() as u64) as usize];
                 add(1, "operand", format!("{}{other}{}", &line[..from], &line[from + word.len()..]));
+            }
+        }
+        for pair in words(line).windows(2) {
+            let [(from, one), (then, two)] = [pair[0], pair[1]];
+            let alone = line[..from].ends_with(['(', ' ']) && line[then + two.len()..].starts_with([',', ')']);
+            let alike = body.types.contains_key(one) && body.types.get(one) == body.types.get(two) && one != two;
+            if &line[from + one.len()..then] == ", " && alone && alike {
+                add(1, "argument", format!("{}{two}, {one}{}", &line[..from], &line[then + two.len()..]));
             }
         }
         if let Some(next) = body.lines.get(at + 1) {
