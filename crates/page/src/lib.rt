@@ -1,5 +1,6 @@
 // The printed forecast of a snapshot's bytes, put into a lent buffer.
 #![tactic(auto)]
+
 ghost use Rattle.std.specs.Prelude.{◌≡◌, ◌+◌, ◌-◌, ◌*◌, ◌≤◌, ◌<◌, length, get_or};
 ghost use Rattle.model.specs.Rows.{column, span};
 ghost use Rattle.model.specs.Decision.{none};
