@@ -1,6 +1,7 @@
 // A policy applied to lent tables: the preference, mark and MED of their routes are rewritten in place, or nothing is and it is refused by
 // number and place.
 #![tactic(auto)]
+
 ghost use Rattle.std.specs.Prelude.{T};
 ghost use Rattle.snapshot.specs.Ranges.{none};
 ghost use Rattle.snapshot.specs.Tables.{columns, tables, short};

@@ -21,16 +21,16 @@ lent s =
 abbrev start_of : tie.After-judge → tie.Start
 start_of c = search rules
 
-abbrev known : tie.After-judge → tie.After-shared-slice-known
+abbrev known : tie.After-judge → tie.After-shared_slice_known-1
 known c = search rules
 
 bytes : (c : tie.After-judge) → T (are_bytes (start_of c).args.policy.now)
-bytes c = slice_bytes (start_of c).args.policy.now (λ k. ((known c).shared-slice-known.given k).fits)
+bytes c = slice_bytes (start_of c).args.policy.now (λ k. ((known c).shared_slice_known-1.given k).fits)
 
-abbrev judged-of : tie.After-enum-told → tie.After-judge
+abbrev judged-of : tie.In-Accepted → tie.After-judge
 judged-of c = search rules
 
-abbrev told_of : tie.After-apply → tie.After-enum-told
+abbrev told_of : tie.After-apply → tie.In-Accepted
 told_of c = search rules
 
 apply-requires : tie.Need-apply-requires
@@ -38,21 +38,21 @@ apply-requires c κs =
     let j : tie.After-judge = search rules in
     let s = start_of j in
     let t = lent s in
-    (applies_lent s.args.counts t s.args.policy.now s.pre.0 s.pre.1, (holding_parts (has_room t s.pre.0) s.pre.1).range.routes)
+    (applies_lent s.args.counts t s.args.policy.now s.requires.0 s.requires.1, (holding_parts (has_room t s.requires.0) s.requires.1).range.routes)
 
-returns : tie.Need-returns
+returns : tie.Need-returns-in-Refused
 returns c =
     let j : tie.After-judge = search rules in
     let s = start_of j in
-    applies_refused s.args.counts (lent s) s.args.policy.now s.pre.0 s.pre.1 c.before.r.given.1 j.judge.ensures
+    applies_refused s.args.counts (lent s) s.args.policy.now s.requires.0 s.requires.1 c.in-Refused.is j.judge.ensures
 
-returns-2 : tie.Need-returns-2
+returns-2 : tie.Need-returns-in-Accepted
 returns-2 c =
     let a : tie.After-apply = search rules in
     let e = told_of a in
     let j = judged-of e in
     let s = start_of j in
-    applies_done s.args.counts (lent s) s.args.policy.now s.pre.0 s.pre.1 (bytes j) e.enum_told.given.1 j.judge.ensures a.apply.ensures
+    applies_done s.args.counts (lent s) s.args.policy.now s.requires.0 s.requires.1 (bytes j) e.in-Accepted.is j.judge.ensures a.apply.ensures
 
 pub apply_held_spec : {M : Type 1} → statement M
 apply_held_spec =

@@ -19,18 +19,18 @@ lent s =
 abbrev start_of : tie.After-examine → tie.Start
 start_of c = search rules
 
-apply-held-requires : tie.Need-apply-held-requires
+apply-held-requires : tie.Need-apply_held-requires
 apply-held-requires c κs =
-    let told : tie.After-enum-told = search rules in
+    let told : tie.In-Good = search rules in
     let seen : tie.After-examine = search rules in
-    verdict_good seen.examine.ensures (ap numbered told.enum_told.given.1)
+    verdict_good seen.examine.ensures (ap numbered told.in-Good.is)
 
-returns : tie.Need-returns
+returns : tie.Need-returns-in-Refused
 returns c =
     let seen : tie.After-examine = search rules in
-    let bound : tie.After-r = search rules in
+    let bound : tie.In-Refused = search rules in
     let start = start_of seen in
-    applies_no start.args.counts (lent start) start.args.policy.now bound.r.given.1 seen.examine.ensures
+    applies_no start.args.counts (lent start) start.args.policy.now bound.in-Refused.is seen.examine.ensures
 
 pub apply_policy_spec : {M : Type 1} → statement M
 apply_policy_spec =
