@@ -1,5 +1,6 @@
 // A policy applied to a snapshot, from bytes to bytes.
 #![tactic(auto)]
+
 ghost use Rattle.std.specs.Prelude.{◌≡◌};
 ghost use Rattle.snapshot.specs.Tables.{columns, tables};
 ghost use Rattle.revise.specs.Revising.{said, revised_answer, revised_out, Rewrites, AfterRead};

@@ -16,45 +16,45 @@ lent s =
     s.args.mark.now s.args.med.now s.args.nid.now s.args.peer.now)
 
 -- the entry, which lies far back
-abbrev start_of : tie.After-apply-policy → tie.Start
+abbrev start_of : tie.After-apply_policy → tie.Start
 start_of c = search rules
 
-abbrev known : tie.After-apply-policy → tie.After-shared-slice-known
+abbrev known : tie.After-apply_policy → tie.After-shared_slice_known-1
 known c = search rules
 
-bytes : (c : tie.After-apply-policy) → T (are_bytes (start_of c).args.policy.now)
-bytes c = slice_bytes (start_of c).args.policy.now (λ k. ((known c).shared-slice-known.given k).fits)
+bytes : (c : tie.After-apply_policy) → T (are_bytes (start_of c).args.policy.now)
+bytes c = slice_bytes (start_of c).args.policy.now (λ k. ((known c).shared_slice_known-1.given k).fits)
 
-abbrev told_of : tie.After-write-snapshot → tie.After-enum-told
+abbrev told_of : tie.After-write_snapshot → tie.In-Rewritten
 told_of c = search rules
 
-abbrev applied-of : tie.After-enum-told → tie.After-apply-policy
+abbrev applied-of : tie.In-Rewritten → tie.After-apply_policy
 applied-of c = search rules
 
-returns : tie.Need-returns
+returns : tie.Need-returns-in-Refused
 returns c =
-    let a : tie.After-apply-policy = search rules in
+    let a : tie.After-apply_policy = search rules in
     let s = start_of a in
     λ x enough valid held fits.
-    rewrites_refused s.args.counts (lent s) _ s.args.policy.now s.args.out.now a.apply-policy.result a.apply-policy.ensures x enough valid held c.before.r.given.1
+    rewrites_refused s.args.counts (lent s) _ s.args.policy.now s.args.out.now a.apply_policy.result a.apply_policy.ensures x enough valid held c.in-Refused.is
 
-returns-2 : tie.Need-returns-2
+returns-2 : tie.Need-returns-in-Refused-write_snapshot
 returns-2 c =
-    let w : tie.After-write-snapshot = search rules in
+    let w : tie.After-write_snapshot = search rules in
     let e = told_of w in
     let a = applied-of e in
     let s = start_of a in
     λ x enough valid held fits.
-    absurd (not_written (rewrites_done s.args.counts (lent s) _ s.args.policy.now s.args.out.now a.apply-policy.result a.apply-policy.ensures x enough valid held (bytes a) e.enum_told.given.1 w.write-snapshot.result w.write-snapshot.ensures fits).0 c.before.r2.given.1)
+    absurd (not_written (rewrites_done s.args.counts (lent s) _ s.args.policy.now s.args.out.now a.apply_policy.result a.apply_policy.ensures x enough valid held (bytes a) e.in-Rewritten.is w.write_snapshot.result w.write_snapshot.ensures fits).0 c.in-Refused-write_snapshot.is)
 
-returns-3 : tie.Need-returns-3
+returns-3 : tie.Need-returns-in-Written
 returns-3 c =
-    let w : tie.After-write-snapshot = search rules in
+    let w : tie.After-write_snapshot = search rules in
     let e = told_of w in
     let a = applied-of e in
     let s = start_of a in
     λ x enough valid held fits.
-    (rewrites_done s.args.counts (lent s) _ s.args.policy.now s.args.out.now a.apply-policy.result a.apply-policy.ensures x enough valid held (bytes a) e.enum_told.given.1 w.write-snapshot.result w.write-snapshot.ensures fits).1
+    (rewrites_done s.args.counts (lent s) _ s.args.policy.now s.args.out.now a.apply_policy.result a.apply_policy.ensures x enough valid held (bytes a) e.in-Rewritten.is w.write_snapshot.result w.write_snapshot.ensures fits).1
 
 pub rewrite_spec : {M : Type 1} → statement M
 rewrite_spec =

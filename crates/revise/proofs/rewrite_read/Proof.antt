@@ -4,18 +4,18 @@ use Rattle.revise.specs.ReviseLaws.{after_refused, after_accepted}
 use Rattle.revise.proofs.rewrite_read.Statement.{statement}
 use Rattle.revise.proofs.rewrite_read.Tie as tie
 
-returns : tie.Need-returns
+returns : tie.Need-returns-in-Refused
 returns c =
-    let told : tie.After-read = search rules in
-    after_refused told.read.given.1
+    let told : tie.In-Refused = search rules in
+    after_refused told.in-Refused.is
 
-abbrev told_of : tie.After-rewrite → tie.After-read2
+abbrev told_of : tie.After-rewrite → tie.In-Accepted
 told_of w = search rules
 
-returns-2 : tie.Need-returns-2
+returns-2 : tie.Need-returns-in-Accepted
 returns-2 c =
     let w : tie.After-rewrite = search rules in
-    after_accepted (told_of w).read2.given.1 w.rewrite.ensures
+    after_accepted (told_of w).in-Accepted.is w.rewrite.ensures
 
 pub rewrite_read_spec : {M : Type 1} → statement M
 rewrite_read_spec =
