@@ -2,6 +2,7 @@
 // own. The rounds of a contest look again and again at which rows are beaten, so they do it this way; `choice` has step 4 as document 01
 // does.
 #![tactic(auto)]
+
 ghost use Rattle.std.specs.Prelude.{◌≡◌, not, ℕ, ◌≤◌, ◌<◌, length, eqb, ltb};
 ghost use Rattle.model.specs.Rows.{keep, span, column};
 ghost use Rattle.model.specs.Contest.{least_or};

@@ -9,7 +9,7 @@ use Rattle.std.proofs.Math.Bool.{not}
 use mathlib.Core.List.{List, ◌∷◌, ◌++◌}
 use Rattle.std.proofs.Math.ListN.{length-take}
 use Rattle.model.specs.Rows.{keep, some, span, table, column, start}
-use Rattle.model.specs.RowLaws.{by, here, keep_append, in_span, table_same, start_first, start_next, start_within}
+use Rattle.model.specs.RowLaws.{by, keep_append, in_span, table_same, start_first, start_next, start_within}
 use Rattle.model.specs.Decision.{beats_by, unbeaten_by}
 use Rattle.model.specs.Contest.{times, least_or}
 use Rattle.model.specs.ContestLaws.{times_stays}

@@ -3,6 +3,7 @@
 // A rule for every answer of this project that is an enum: a definition in specs/ gives document 01's number and values for each
 // case, as a `Said`, and promises are written with that definition. Here it is `number_of`.
 #![tactic(auto)]
+
 ghost use Rattle.std.specs.Prelude.{◌≡◌};
 ghost use Rattle.refusal.specs.Numbers.{number_of};
 

@@ -1,6 +1,7 @@
 // The rows of a prefix that are still kept, as a list of row numbers, and what every step does with them: find the least or the
 // greatest key of a listed row, and pack the rows with that key into the front of the list.
 #![tactic(auto)]
+
 ghost use Rattle.std.specs.Prelude.{◌≡◌, ◌≤◌, ◌<◌, length, get_or, replicate, eqb};
 ghost use Rattle.model.specs.Rows.{keep, span, column, greatest, keep_least};
 ghost use Rattle.model.specs.Decision.{none};

@@ -1,5 +1,5 @@
 -- Laws of the lent tables: they have room exactly where none is shorter than its limit; and the routes of all prefixes.
-use Rattle.std.specs.Prelude.{◌+◌, ◌≡◌, refl, Bool, false, List, [], ◌∷◌, ◌++◌, T, length}
+use Rattle.std.specs.Prelude.{◌≡◌, refl, Bool, false, List, [], ◌∷◌, ◌++◌, T, length}
 use Rattle.std.proofs.Common.{arith, sym, ap, ◌∙◌, append_assoc, length-append, ltb-false, le-ltb}
 use Rattle.model.specs.Decision.{Route}
 use Rattle.snapshot.specs.Ranges.{none}

@@ -1,6 +1,7 @@
 // The snapshot: its definitions and theorems (open specs/Theorems.antt first), its limits, the sizes of its records, and the tests
 // of its ranges and of the tables' room, which reading and the judging of tables share.
 #![tactic(auto)]
+
 ghost use Rattle.std.specs.Prelude.{◌≡◌, not};
 ghost use Rattle.snapshot.specs.Ranges.{any_of, count_tests, id_tests, distance_tests, prefix_tests, asn_tests, route_tests, rises};
 ghost use Rattle.snapshot.specs.Records.{four_byte, route_form_by, route_forms, stands, size};

@@ -1,5 +1,5 @@
 -- Laws of texts in buffers, and by which the loops that put them are proved.
-use Rattle.std.specs.Prelude.{ℕ, zero, suc, ◌+◌, ◌-◌, ◌*◌, ◌/◌, ◌%◌, ◌^◌, ◌≤◌, ◌<◌, ◌≡◌, refl, Bool, cond, List, [], ◌∷◌, ◌++◌, ltb, length, get_or, set, take}
+use Rattle.std.specs.Prelude.{ℕ, zero, suc, ◌+◌, ◌-◌, ◌*◌, ◌/◌, ◌%◌, ◌^◌, ◌≤◌, ◌<◌, ◌≡◌, refl, Bool, cond, List, [], ◌∷◌, ◌++◌, length, get_or, set, take}
 use Rattle.std.proofs.Math.Nat.{sub-zero, div-div-eq-div-mul, pow-le-pow_right}
 use Rattle.std.proofs.Common.{mul-suc, mul-le-mul_left, div-one, le-div_iff_mul-le, pow-suc, add-one, arith, sym, ap, ap₂, subst, ◌∙◌, inl, inr, append_assoc, append-nil, lit<, length-set, length-append, take-suc, take_all, length-take-le, lt-ltb, le-ltb}
 use Rattle.std.proofs.lemmas.List.Edits.{sets}

@@ -1,5 +1,6 @@
 // Words and numbers put into a lent buffer as bytes. Each call answers the place after what it put.
 #![tactic(auto)]
+
 ghost use Rattle.std.specs.Prelude.{◌≡◌, ◌+◌, ◌≤◌, length};
 ghost use Rattle.text.specs.Text.{width, digits, decimal, Puts};
 

@@ -1,5 +1,6 @@
 // The word of differing routers: one bit per router whose two rows differ, bit r for router r. Its ones are the open number.
 #![tactic(auto)]
+
 ghost use Rattle.std.specs.Prelude.{◌≡◌, ◌≤◌, ◌<◌, length};
 ghost use Rattle.std.specs.Int.Count.{ones as Count·ones};
 ghost use Rattle.word.specs.Word.{word, differs, differing_in};
