@@ -1,5 +1,6 @@
 // A policy file that was judged sound is walked again to apply it: its sessions, their clauses taken apart, and the first that fits.
 #![tactic(auto)]
+
 ghost use Rattle.std.specs.Prelude.{◌≡◌, true, ◌+◌, ◌≤◌, length, take};
 ghost use Rattle.policy.specs.Policy.{most_clauses};
 ghost use Rattle.policy.specs.Rewriting.{fits, preferred};

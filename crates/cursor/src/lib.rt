@@ -2,6 +2,7 @@
 // record and hands back the next cursor with what the record says, or a refusal with its place. `opens` and `ends` serve every file of
 // this record habit: they go by the body that the file's own table of kinds gives.
 #![tactic(auto)]
+
 ghost use Rattle.std.specs.Prelude.{◌≡◌, cond, [], ◌∷◌, ◌+◌, ◌≤◌, eqb, length, get_or, drop};
 ghost use Rattle.model.specs.Rows.{some};
 ghost use Rattle.snapshot.specs.Plain.{route_is};

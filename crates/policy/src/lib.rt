@@ -1,5 +1,6 @@
 // The policy file: the lengths of its records, its limits, and the ranges of its values. What it means stands in specs/.
 #![tactic(auto)]
+
 ghost use Rattle.std.specs.Prelude.{◌≡◌};
 ghost use Rattle.snapshot.specs.Ranges.{any_of};
 ghost use Rattle.policy.specs.Policy.{clause_asn_tests};

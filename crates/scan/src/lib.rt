@@ -1,5 +1,6 @@
 // The first pass over a snapshot: the whole input is judged, section by section, and no table is touched.
 #![tactic(auto)]
+
 ghost use Rattle.std.specs.Prelude.{◌≡◌, ◌+◌, ◌<◌, ◌≢◌, [], not, T, get_or};
 ghost use Rattle.snapshot.specs.Records.{route_forms, stands};
 ghost use Rattle.snapshot.specs.Limits.{most_prefixes, most_in_prefix, most_routes};

@@ -1,6 +1,5 @@
 -- `take_apart` meets its contract: by `Taken`, a clause a turn. Assumes nothing.
 use borrow.Author.Rules.{rules}
-use borrow.Author.Tests.{not-true, not-false}
 use native.Mathlib.Omega.{arith}
 use Prim.Native.Nat.{◌-◌}
 use mathlib.Core.Path.{◌≡◌, sym, ◌∙◌}

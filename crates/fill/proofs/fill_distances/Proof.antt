@@ -1,7 +1,6 @@
 -- `fill_distances` meets its contract: by `Entries`, a law a turn. Assumes nothing.
 use borrow.Author.Rules.{rules}
 use native.Mathlib.Omega.{arith}
-use borrow.Author.Tests.{leb-true, leb-false}
 use Prim.Native.Nat.{◌*◌, ◌-◌}
 use Rattle.snapshot.specs.Limits.{stride}
 use Rattle.fill.specs.StoresLaws.{Entries, entries_start, entries_long, entries_skip, entries_next, entries_end}
