@@ -1,5 +1,6 @@
 // The library's calls as the benchmarks make them: with numbers in place of enums, so that a C caller can take them.
 #![tactic(auto)]
+
 ghost use Rattle.std.specs.Prelude.{◌≡◌};
 ghost use Rattle.snapshot.specs.Tables.{tables, columns};
 ghost use Rattle.scan.specs.Scan.{said as read_said};

@@ -3,14 +3,14 @@ use Rattle.apply.specs.Applying.{said}
 use Rattle.measure.proofs.measure_policy.Statement.{statement}
 use Rattle.measure.proofs.measure_policy.Tie as tie
 
-abbrev made : tie.After-applied-number → tie.After-apply-policy
+abbrev made : tie.After-applied_number → tie.After-apply_policy-applied
 made told = search rules
 
 returns : tie.Need-returns
 returns c =
-    let told : tie.After-applied-number = search rules in
+    let told : tie.After-applied_number = search rules in
     let m = made told in
-    record { said = said m.apply-policy.result; applies = m.apply-policy.ensures; number = told.applied-number.ensures }
+    record { said = said m.apply_policy-applied.result; applies = m.apply_policy-applied.ensures; number = told.applied_number.ensures }
 
 pub measure_policy_spec : {M : Type 1} → statement M
 measure_policy_spec =

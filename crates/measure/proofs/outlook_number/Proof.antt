@@ -19,15 +19,15 @@ outlook_number_spec =
     (λ c. search rules)
     (λ c κs. search rules)
     (λ c.
-    let told : tie.After-outlook2 = search rules in
+    let told : tie.In-Refused = search rules in
     let n : tie.After-number = search rules in
-    omega (arith, n.number.ensures, (number_range told.outlook2.given.0.0).1))
+    omega (arith, n.number.ensures, (number_range told.in-Refused.r).1))
     (λ c.
-    let told : tie.After-outlook = search rules in
-    sym (ap (λ (a : Outlook). outlook_number (said a)) told.outlook.given.1))
+    let told : tie.In-Forecast = search rules in
+    sym (ap (λ (a : Outlook). outlook_number (said a)) told.in-Forecast.is))
     (λ c.
-    let told : tie.After-outlook2 = search rules in
+    let told : tie.In-Refused = search rules in
     let n : tie.After-number = search rules in
     ap (λ (k : ℕ). 100 + k) n.number.ensures
-    ∙ refused_number 1 100 told.outlook2.given.0.0 told.outlook2.given.0.1.0
-    ∙ sym (ap (λ (a : Outlook). outlook_number (said a)) told.outlook2.given.1)))
+    ∙ refused_number 1 100 told.in-Refused.r told.in-Refused.field-1
+    ∙ sym (ap (λ (a : Outlook). outlook_number (said a)) told.in-Refused.is)))

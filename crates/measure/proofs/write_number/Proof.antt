@@ -19,11 +19,11 @@ write_number_spec =
     (λ c. search rules)
     (λ c. search rules)
     (λ c.
-    let told : tie.After-written = search rules in
-    sym (ap (λ (a : Write). write_number (said a)) told.written.given.1))
+    let told : tie.In-Written = search rules in
+    sym (ap (λ (a : Write). write_number (said a)) told.in-Written.is))
     (λ c.
-    let told : tie.After-written2 = search rules in
+    let told : tie.In-Refused = search rules in
     let n : tie.After-number = search rules in
     ap (λ (k : ℕ). 1000000 + k) n.number.ensures
-    ∙ refused_number 0 1000000 told.written2.given.0.0 told.written2.given.0.1.0
-    ∙ sym (ap (λ (a : Write). write_number (said a)) told.written2.given.1)))
+    ∙ refused_number 0 1000000 told.in-Refused.r told.in-Refused.field-1
+    ∙ sym (ap (λ (a : Write). write_number (said a)) told.in-Refused.is)))
