@@ -1,6 +1,7 @@
 // The passes of a policy's sessions along the columns of the routes: every preference is set to 100, and then each session goes along the
 // rows once and rewrites those that were heard on it.
 #![tactic(auto)]
+
 ghost use Rattle.std.specs.Prelude.{◌≡◌, cond, ◌&&◌, ◌≤◌, ◌<◌, eqb, length, set};
 ghost use Rattle.model.specs.Rows.{column, start};
 ghost use Rattle.snapshot.specs.Limits.{most_prefixes, most_routes};

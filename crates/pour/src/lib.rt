@@ -1,5 +1,6 @@
 // The second pass over a snapshot, its loops over routes and prefixes: what was judged sound is put into the lent tables.
 #![tactic(auto)]
+
 ghost use Rattle.std.specs.Prelude.{◌≡◌, ◌+◌, ◌-◌, ◌≤◌, length};
 ghost use Rattle.snapshot.specs.Limits.{most_prefixes};
 ghost use Rattle.snapshot.specs.Tables.{columns, tables, put_routes, Wide, Room};

@@ -1,5 +1,6 @@
 // Reading a snapshot: from bytes to the lent tables, or a refusal by number and place with nothing altered.
 #![tactic(auto)]
+
 ghost use Rattle.std.specs.Prelude.{◌≡◌};
 ghost use Rattle.snapshot.specs.Tables.{columns, tables};
 ghost use Rattle.scan.specs.Scan.{said};

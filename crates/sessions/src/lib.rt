@@ -1,5 +1,6 @@
 // One pass over a policy file: the whole input is judged, record by record, and of what was read only the latest session is kept.
 #![tactic(auto)]
+
 ghost use Rattle.std.specs.Prelude.{◌≡◌, not, [], ◌∷◌, ◌+◌, ◌≤◌, ◌<◌, length, get_or};
 ghost use Rattle.refusal.specs.declared.Refusal.TheVariants.{Field};
 ghost use Rattle.snapshot.specs.Format.{◌else◌};
