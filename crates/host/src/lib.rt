@@ -1,6 +1,7 @@
 // The calls for C programs: the forecast of one prefix, from snapshot bytes, a prefix number and an answer area; and what a policy makes
 // of a snapshot, from bytes to bytes.
 #![tactic(auto)]
+
 ghost use Rattle.std.specs.Prelude.{◌≡◌, ◌++◌, ◌+◌, ◌*◌, ◌≤◌, length};
 ghost use Rattle.std.proofs.lemmas.List.Edits.{sets};
 ghost use Rattle.model.specs.Rows.{span};

@@ -12,13 +12,13 @@ answer_spec =
     (tie.spec
     (λ c κs. search rules)
     (λ c κs. search rules)
-    (λ c. let start : tie.Start = search rules in omega (arith, (asked_spans start.pre.0).few))
-    (λ c. let start : tie.Start = search rules in let few = (asked_spans start.pre.0).few in simp length-take (omega arith))
-    (λ c. let start : tie.Start = search rules in omega (arith, (asked_spans start.pre.0).few))
-    (λ c. let start : tie.Start = search rules in let few = (asked_spans start.pre.0).few in simp length-take (omega arith))
+    (λ c. let start : tie.Start = search rules in omega (arith, (asked_spans start.requires.0).few))
+    (λ c. let start : tie.Start = search rules in let few = (asked_spans start.requires.0).few in simp length-take (omega arith))
+    (λ c. let start : tie.Start = search rules in omega (arith, (asked_spans start.requires.0).few))
+    (λ c. let start : tie.Start = search rules in let few = (asked_spans start.requires.0).few in simp length-take (omega arith))
     (λ c κs.
     let start : tie.Start = search rules in
-    let few = (asked_spans start.pre.0).few in
-    (asked_again (simp length-take (omega arith)) start.pre.0, simp length-take (omega arith), start.pre.1))
+    let few = (asked_spans start.requires.0).few in
+    (asked_again (simp length-take (omega arith)) start.requires.0, simp length-take (omega arith), start.requires.1))
     (λ c. search rules)
     (λ c. search rules))

@@ -13,13 +13,13 @@ answer_in_spec =
     (λ c κs. search rules)
     (λ c κs.
     let start : tie.Start = search rules in
-    let made : tie.After-forecast = search rules in
-    (omega (arith, made.forecast.kept, start.pre.1), omega (arith, made.forecast.kept, start.pre.2, (asked_spans start.pre.0).few)))
+    let made : tie.After-forecast-d = search rules in
+    (omega (arith, made.forecast-d.auto.early, made.forecast-d.auto.late, start.requires.1), omega (arith, made.forecast-d.auto.early, made.forecast-d.auto.late, start.requires.2, (asked_spans start.requires.0).few)))
     (λ c. search rules)
     (λ c. search rules)
     (λ c. search rules)
     (λ c.
     let start : tie.Start = search rules in
-    let made : tie.After-forecast = search rules in
-    let put : tie.After-put-rows = search rules in
-    answers_given start.pre.2 made.forecast.ensures put.put-rows.ensures))
+    let made : tie.After-forecast-d = search rules in
+    let put : tie.After-put_rows = search rules in
+    answers_given start.requires.2 made.forecast-d.ensures put.put_rows.ensures))

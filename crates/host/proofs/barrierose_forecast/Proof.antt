@@ -10,44 +10,44 @@ use Rattle.host.specs.HostLaws.{answers_as, answers_refused, answers_none, asked
 use Rattle.host.proofs.barrierose_forecast.Statement.{statement}
 use Rattle.host.proofs.barrierose_forecast.Tie as tie
 
-abbrev start : tie.Else1 → tie.Start
+abbrev start : tie.Else-area-lt-AREA_BYTES → tie.Start
 start c = search rules
 
-bytes : (c : tie.Else1) → T (are_bytes (start c).args.snapshot.now)
+bytes : (c : tie.Else-area-lt-AREA_BYTES) → T (are_bytes (start c).args.snapshot.now)
 bytes c =
-    let known : tie.After-shared-slice-known = search rules in
-    slice_bytes (start c).args.snapshot.now (λ k. (known.shared-slice-known.given k).fits)
+    let known : tie.After-shared_slice_known-1 = search rules in
+    slice_bytes (start c).args.snapshot.now (λ k. (known.shared_slice_known-1.given k).fits)
 
-returns : tie.Need-returns
+returns : tie.Need-returns-then-area-lt-AREA_BYTES
 returns c =
-    let short : tie.Then1 = search rules in
+    let short : tie.Then-area-lt-AREA_BYTES = search rules in
     let code : tie.After-refused = search rules in
-    answers_as code.refused.ensures (room short.if1.taken)
+    answers_as code.refused.ensures (room short.if-area-lt-AREA_BYTES.true)
 
-returns-2 : tie.Need-returns-2
+returns-2 : tie.Need-returns-then-counts-prefix
 returns-2 c =
-    let long : tie.Else1 = search rules in
+    let long : tie.Else-area-lt-AREA_BYTES = search rules in
     let judged : tie.After-judge = search rules in
-    let sound : tie.After-counts = search rules in
-    let over : tie.Then2 = search rules in
-    let code : tie.After-refused3 = search rules in
-    answers_as code.refused3.ensures (answers_none long.if1.left (sym sound.counts.given.1 ∙ said_is _ judged.judge.ensures) over.if2.taken)
+    let sound : tie.In-Accepted = search rules in
+    let over : tie.Then-counts-prefix = search rules in
+    let code : tie.After-refused-then-counts-prefix = search rules in
+    answers_as code.refused-then-counts-prefix.ensures (answers_none long.if-area-lt-AREA_BYTES.false (sym sound.in-Accepted.is ∙ said_is _ judged.judge.ensures) over.if-counts-prefix.true)
 
 answer-requires : tie.Need-answer-requires
 answer-requires c κs =
-    let long : tie.Else1 = search rules in
+    let long : tie.Else-area-lt-AREA_BYTES = search rules in
     let judged : tie.After-judge = search rules in
-    let sound : tie.After-counts = search rules in
-    let under : tie.Else2 = search rules in
-    (asked (start long).args.snapshot.now (bytes long) (sym sound.counts.given.1 ∙ said_is _ judged.judge.ensures) under.if2.left, long.if1.left)
+    let sound : tie.In-Accepted = search rules in
+    let under : tie.Else-counts-prefix = search rules in
+    (asked (start long).args.snapshot.now (bytes long) (sym sound.in-Accepted.is ∙ said_is _ judged.judge.ensures) under.if-counts-prefix.false, long.if-area-lt-AREA_BYTES.false)
 
-returns-3 : tie.Need-returns-3
+returns-3 : tie.Need-returns-in-Refused
 returns-3 c =
-    let long : tie.Else1 = search rules in
+    let long : tie.Else-area-lt-AREA_BYTES = search rules in
     let judged : tie.After-judge = search rules in
-    let bad : tie.After-r = search rules in
-    let code : tie.After-refused2 = search rules in
-    answers_as code.refused2.ensures (answers_refused long.if1.left (sym bad.r.given.1 ∙ said_is _ judged.judge.ensures))
+    let bad : tie.In-Refused = search rules in
+    let code : tie.After-refused-in-Refused = search rules in
+    answers_as code.refused-in-Refused.ensures (answers_refused long.if-area-lt-AREA_BYTES.false (sym bad.in-Refused.is ∙ said_is _ judged.judge.ensures))
 
 pub barrierose_forecast_spec : {M : Type 1} → statement M
 barrierose_forecast_spec =

@@ -10,9 +10,9 @@ returns c =
     let start : tie.Start = search rules in
     let early : tie.After-wide = search rules in
     let first : tie.After-put16 = search rules in
-    let late : tie.After-wide2 = search rules in
-    let second : tie.After-put162 = search rules in
-    router_put start.args.at start.args.early start.args.late early.wide.ensures first.put16.ensures late.wide2.ensures second.put162.ensures refl
+    let late : tie.After-wide-2 = search rules in
+    let second : tie.After-put16-2 = search rules in
+    router_put start.args.at start.args.early start.args.late early.wide.ensures first.put16.ensures late.wide-2.ensures second.put16-2.ensures refl
 
 pub put_router_spec : {M : Type 1} → statement M
 put_router_spec =

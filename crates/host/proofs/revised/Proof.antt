@@ -16,16 +16,16 @@ revised_spec =
     (λ c. search rules)
     (λ c. search rules)
     (λ c κs. search rules)
-    (λ c. let n : tie.After-number = search rules in let told : tie.After-answer = search rules in omega (arith, n.number.ensures, (number_range told.answer.given.0.0).1))
+    (λ c. let n : tie.After-number = search rules in let told : tie.In-SnapshotRefused = search rules in omega (arith, n.number.ensures, (number_range told.in-SnapshotRefused.r).1))
     (λ c. search rules)
     (λ c κs. search rules)
-    (λ c. let n : tie.After-number2 = search rules in let told : tie.After-answer2 = search rules in omega (arith, n.number2.ensures, (number_range told.answer2.given.0.0).1))
+    (λ c. let n : tie.After-number-in-PolicyRefused = search rules in let told : tie.In-PolicyRefused = search rules in omega (arith, n.number-in-PolicyRefused.ensures, (number_range told.in-PolicyRefused.r).1))
     (λ c. search rules)
     (λ c.
     let n : tie.After-number = search rules in
-    let told : tie.After-answer = search rules in
-    ap (λ (k : ℕ). 100 + k) n.number.ensures ∙ sym (ap (λ (a : Revised). (said a).number) told.answer.given.1))
+    let told : tie.In-SnapshotRefused = search rules in
+    ap (λ (k : ℕ). 100 + k) n.number.ensures ∙ sym (ap (λ (a : Revised). (said a).number) told.in-SnapshotRefused.is))
     (λ c.
-    let n : tie.After-number2 = search rules in
-    let told : tie.After-answer2 = search rules in
-    ap (λ (k : ℕ). 200 + k) n.number2.ensures ∙ sym (ap (λ (a : Revised). (said a).number) told.answer2.given.1)))
+    let n : tie.After-number-in-PolicyRefused = search rules in
+    let told : tie.In-PolicyRefused = search rules in
+    ap (λ (k : ℕ). 200 + k) n.number-in-PolicyRefused.ensures ∙ sym (ap (λ (a : Revised). (said a).number) told.in-PolicyRefused.is)))
