@@ -9,7 +9,7 @@ use Rattle.snapshot.specs.Ranges.{none}
 use Rattle.snapshot.specs.Format.{Snapshot}
 use Rattle.snapshot.specs.Reading.{AnswerOf}
 use Rattle.snapshot.specs.Tables.{Columns, columns, Tables, short, filled, Room}
-use Rattle.snapshot.specs.TablesLaws.{has_room}
+use Rattle.snapshot.proofs.TablesLaws.{has_room}
 use Rattle.tables.specs.declared.Verdict.{Verdict}
 use Rattle.tables.specs.declared.Verdict.TheVariants as verdict
 use Rattle.tables.specs.Judging.{Holding, numbered, Verdicts}
@@ -18,7 +18,7 @@ use Rattle.tables.specs.Theorems.{verdict_refused}
 use Rattle.policy.specs.Policy.{Session, Policy}
 use Rattle.policy.specs.Reading.{reading}
 use Rattle.policy.specs.Rewriting.{rewritten, with_rows}
-use Rattle.policy.specs.Theorems.{accepts}
+use Rattle.policy.proofs.Theorems.{accepts}
 use Rattle.clauses.specs.Walking.{sessions_from}
 use Rattle.clauses.specs.Theorems.{walked}
 use Rattle.passes.specs.Passes.{seen, prefix_field, applied, Lent}

@@ -3,12 +3,12 @@ use Rattle.std.specs.Prelude.{◌≡◌, refl, List, ℕ}
 use Rattle.std.proofs.Common.{sym, ap}
 use Rattle.std.proofs.Math.Facts.{T_not}
 use Rattle.refusal.specs.Numbers.{Said}
-use Rattle.refusal.specs.NumbersLaws.{same_refusal, gives_refuses}
+use Rattle.refusal.proofs.NumbersLaws.{same_refusal, gives_refuses}
 use Rattle.snapshot.specs.declared.Counts.{Counts}
 use Rattle.snapshot.specs.Ranges.{any_of}
 use Rattle.snapshot.specs.Format.{Snapshot}
 use Rattle.snapshot.specs.Tables.{Tables, short}
-use Rattle.snapshot.specs.TablesLaws.{has_room}
+use Rattle.snapshot.proofs.TablesLaws.{has_room}
 use Rattle.tables.specs.Theorems.{held_one}
 use Rattle.policy.specs.Reading.{reading}
 use Rattle.apply.specs.declared.Applied.{Applied}

@@ -7,7 +7,7 @@ use Rattle.std.proofs.lemmas.List.Edits.{sets}
 use Rattle.refusal.specs.declared.Refusal.{Refusal}
 use Rattle.refusal.specs.declared.Refusal.TheVariants.{Room}
 use Rattle.refusal.specs.Numbers.{number_of}
-use Rattle.model.specs.RowLaws.{by}
+use Rattle.model.proofs.RowLaws.{by}
 use Rattle.snapshot.specs.declared.Counts.{Counts}
 use Rattle.snapshot.specs.Limits.{most_routes}
 use Rattle.snapshot.specs.Ranges.{any_of}
@@ -20,7 +20,7 @@ use Rattle.scan.specs.Scan.{said as read_said, told}
 use Rattle.reader.specs.Read.{read_answer, read_tables}
 use Rattle.reader.specs.ReadLaws.{answer_told}
 use Rattle.tables.specs.Judging.{Decides}
-use Rattle.snapshot.specs.TablesLaws.{has_room}
+use Rattle.snapshot.proofs.TablesLaws.{has_room}
 use Rattle.tables.specs.Theorems.{held_one}
 use Rattle.writer.specs.declared.Write.{Write}
 use Rattle.writer.specs.declared.Write.TheVariants as write

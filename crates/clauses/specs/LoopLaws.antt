@@ -5,9 +5,9 @@ use Rattle.std.proofs.Math.Nat.{sub-zero}
 use Rattle.std.proofs.lemmas.List.{map-append, length-map}
 use Rattle.std.proofs.lemmas.List.Edits.{sets}
 use Rattle.model.specs.Rows.{span, table, column}
-use Rattle.model.specs.RowLaws.{table_length, table_same, table_snoc}
-use Rattle.model.specs.ColumnLaws.{sets_append}
-use Rattle.model.specs.LoopLaws.{rest, rest_next, rest_end}
+use Rattle.model.proofs.RowLaws.{table_length, table_same, table_snoc}
+use Rattle.model.proofs.ColumnLaws.{sets_append}
+use Rattle.model.proofs.LoopLaws.{rest, rest_next, rest_end}
 use Rattle.policy.specs.Policy.{Clause, exact, direct, any, most_clauses}
 use Rattle.policy.specs.Rewriting.{usual, fits, preference_of, preferred}
 use Rattle.clauses.specs.Walking.{clause_at, size_at, is_clause, clauses_from, behind_clauses, clause_by, clause_in, apart, kind_of, key_of, length_of, Parts, Apart, Wide}

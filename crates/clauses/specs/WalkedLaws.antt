@@ -2,8 +2,8 @@
 use Rattle.std.specs.Prelude.{ℕ, ◌+◌, ◌-◌, ◌≤◌, ◌≡◌, refl, Bool, true, false, cond, ◌&&◌, List, [], ◌∷◌, ◌++◌, length, get_or, take, drop, leb, eqb}
 use Rattle.std.proofs.Common.{arith, sym, ap, ap₂, ◌∙◌, append_assoc, length-append, length-drop, drop_at, drop-drop, take_all, le-leb}
 use Rattle.snapshot.specs.Records.{Form, end_form, written, size, Fits, kind, values, values_at}
-use Rattle.snapshot.specs.RecordsLaws.{values_at_lem, values_written}
-use Rattle.snapshot.specs.PlaceLaws.{kind_at}
+use Rattle.snapshot.proofs.RecordsLaws.{values_at_lem, values_written}
+use Rattle.snapshot.proofs.PlaceLaws.{kind_at}
 use Rattle.snapshot.specs.Format.{Each}
 use Rattle.policy.specs.Policy.{Clause, exact, direct, any, Policy, most_clauses, session_form, exact_form, direct_form, any_form, clause_form, clause_fields, clauses_bytes, zero_bytes, sessions_bytes, GoodClause, GoodSession}
 use Rattle.policy.specs.Reading.{exact_clause, direct_clause, any_clause}

@@ -10,7 +10,7 @@ use Rattle.std.proofs.Math.ListN.{length, length-append, get_or-eq_default}
 use Rattle.std.proofs.lemmas.Bool.{lt-leb}
 use Rattle.wire.specs.Numbers.{number_at}
 use Rattle.wire.specs.NumbersLaws.{number_1}
-use Rattle.model.specs.RowLaws.{by, both}
+use Rattle.model.proofs.RowLaws.{by, both}
 use Rattle.snapshot.specs.Records.{size, written, values_at}
 use Rattle.policy.specs.Policy.{Clause, exact, direct, any, exact_form, direct_form, any_form, clause_form, clause_fields, clauses_bytes}
 use Rattle.policy.specs.Reading.{exact_clause, direct_clause, any_clause}

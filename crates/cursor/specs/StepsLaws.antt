@@ -14,11 +14,11 @@ use Rattle.refusal.specs.declared.Refusal.TheVariants.{Cut, Kind, Place, Full, F
 use Rattle.snapshot.specs.Limits.{most_prefixes, most_in_prefix, most_routes}
 use Rattle.snapshot.specs.Ranges.{none, prefix_tests, route_tests}
 use Rattle.snapshot.specs.Records.{Form, Forms, forms, of_kind, only, sum, size, known, prefix_form, route_form, route_form_by, route_forms, end_form, form_at, values_at}
-use Rattle.snapshot.specs.RecordsLaws.{of_routes}
+use Rattle.snapshot.proofs.RecordsLaws.{of_routes}
 use Rattle.snapshot.specs.Format.{Snapshot, Check, ◌else◌, judged, Holds}
 use Rattle.snapshot.specs.Reading.{record_checks, prefix_room, prefix_record, route_room, route_extra, route_record, route_of, end_values, end_record}
-use Rattle.snapshot.specs.ChecksLaws.{judged_append, judged_front}
-use Rattle.snapshot.specs.PlaceLaws.{record_at}
+use Rattle.snapshot.proofs.ChecksLaws.{judged_append, judged_front}
+use Rattle.snapshot.proofs.PlaceLaws.{record_at}
 use Rattle.cursor.specs.declared.Finding.{Finding}
 use Rattle.cursor.specs.declared.Finding.TheVariants.{Clear, Fault}
 use Rattle.cursor.specs.declared.Body.{Body}

@@ -2,7 +2,7 @@
 use Rattle.std.specs.Prelude.{◌≡◌, refl}
 use Rattle.std.proofs.Common.{sym, ap}
 use Rattle.refusal.specs.Numbers.{Said}
-use Rattle.refusal.specs.NumbersLaws.{value, same_refusal, gives_refuses}
+use Rattle.refusal.proofs.NumbersLaws.{value, same_refusal, gives_refuses}
 use Rattle.cursor.specs.declared.Cursor.{Cursor}
 use Rattle.cursor.specs.declared.Step.{Step}
 use Rattle.cursor.specs.declared.Step.TheVariants as step

@@ -9,7 +9,7 @@ use Rattle.model.specs.Decision.{Mesh, choice}
 use Rattle.model.specs.Stability.{available, differing}
 use Rattle.model.specs.Contest.{early, late, at_place, earliest, contest}
 use Rattle.model.specs.Columns.{ForecastRows}
-use Rattle.model.specs.RowLaws.{table_length}
+use Rattle.model.proofs.RowLaws.{table_length}
 use Rattle.decide.specs.Decide.{Decided}
 
 -- what the code counts of the rows of a mesh

@@ -5,19 +5,19 @@ use Rattle.std.proofs.Math.Decide.{ℕ_discrete}
 use Rattle.wire.specs.Numbers.{number_at}
 use Rattle.wire.specs.NumbersLaws.{number_drop}
 use Rattle.model.specs.Rows.{table}
-use Rattle.model.specs.RowLaws.{table_length, table_at, table_same}
+use Rattle.model.proofs.RowLaws.{table_length, table_at, table_same}
 use Rattle.model.specs.Decision.{Route}
 use Rattle.snapshot.specs.Limits.{most_routers, stride, most_routes, most_bits, farthest}
 use Rattle.snapshot.specs.Ranges.{distance_tests, prefix_tests}
-use Rattle.snapshot.specs.RangesLaws.{none_at}
+use Rattle.snapshot.proofs.RangesLaws.{none_at}
 use Rattle.snapshot.specs.Records.{Form, count_form, router_form, distance_form, prefix_form, route_forms, end_form, four_byte, form_of, stands, form_at, sum, written, written_in, size, Fits, kind, values, values_at}
-use Rattle.snapshot.specs.RecordsLaws.{values_at_lem, values_written, length_spread, of_routes, routes_chosen}
+use Rattle.snapshot.proofs.RecordsLaws.{values_at_lem, values_written, length_spread, of_routes, routes_chosen}
 use Rattle.snapshot.specs.Format.{Prefix, Snapshot, Pair, pairs, pairs_before, distance, Each, GoodId, GoodDistance, GoodRoute, GoodPrefix, Valid, records, routes_in, routes_bytes, routers_bytes, distances_bytes, prefixes_bytes, route_fields, encode}
 use Rattle.snapshot.specs.Reading.{route_of}
-use Rattle.snapshot.specs.ChecksLaws.{count_range, routers_few}
-use Rattle.snapshot.specs.PairsLaws.{pairs_length, pair_two, pair_of}
-use Rattle.snapshot.specs.PlaceLaws.{kind_at}
-use Rattle.snapshot.specs.WrittenLaws.{routers_size, distances_size, encode_size}
+use Rattle.snapshot.proofs.ChecksLaws.{count_range, routers_few}
+use Rattle.snapshot.proofs.PairsLaws.{pairs_length, pair_two, pair_of}
+use Rattle.snapshot.proofs.PlaceLaws.{kind_at}
+use Rattle.snapshot.proofs.WrittenLaws.{routers_size, distances_size, encode_size}
 use Rattle.snapshot.specs.Tables.{Tables, filled, used, put_distances}
 use Rattle.cursor.specs.Steps.{id_at, router_place}
 use Rattle.fill.specs.Fill.{ids_in, distance_in, entry_in, behind_distances, is_route, routes_from, behind_routes, prefix_with, prefixes_from, filled_from, Spans}

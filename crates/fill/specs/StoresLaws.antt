@@ -13,20 +13,20 @@ use Rattle.std.proofs.lemmas.List.Edits.{sets}
 use Rattle.std.proofs.Math.Seq.{length-sets}
 use Rattle.std.proofs.lemmas.Bool.{lt-leb}
 use Rattle.model.specs.Rows.{table}
-use Rattle.model.specs.RowLaws.{both, table_length, table_at, table_snoc}
-use Rattle.model.specs.LoopLaws.{Stored, stored, stored_next, stored_skip}
+use Rattle.model.proofs.RowLaws.{both, table_length, table_at, table_snoc}
+use Rattle.model.proofs.LoopLaws.{Stored, stored, stored_next, stored_skip}
 use Rattle.model.specs.Decision.{Route}
 use Rattle.snapshot.specs.Limits.{stride, most_routes}
 use Rattle.snapshot.specs.Records.{Form, count_form, prefix_form, four_byte_route_form, route_form_by, route_forms, stands, size, form_at, values_at}
-use Rattle.snapshot.specs.RecordsLaws.{of_routes}
+use Rattle.snapshot.proofs.RecordsLaws.{of_routes}
 use Rattle.snapshot.specs.Format.{Prefix, routes_in}
-use Rattle.snapshot.specs.ChecksLaws.{length_snoc, routes_in_append}
+use Rattle.snapshot.proofs.ChecksLaws.{length_snoc, routes_in_append}
 use Rattle.snapshot.specs.Reading.{route_of}
 use Rattle.snapshot.specs.Tables.{Columns, Tables, tables, used, put_routes, all_routes, Wide}
 use Rattle.cursor.specs.Steps.{id_at, router_place}
 use Rattle.fill.specs.Fill.{ids_in, distance_in, entry_in, behind_distances, filled_from, is_route, routes_from, behind_routes, prefix_with, prefixes_from, Lists, lists, put_prefixes, WideLists}
-use Rattle.model.specs.ColumnLaws.{sets_append}
-use Rattle.snapshot.specs.TablesLaws.{length_all, all_append}
+use Rattle.model.proofs.ColumnLaws.{sets_append}
+use Rattle.snapshot.proofs.TablesLaws.{length_all, all_append}
 
 -- ---- lists that are stored from a place on
 

@@ -8,10 +8,10 @@ use Rattle.refusal.specs.declared.Refusal.TheVariants.{NoPrefix}
 use Rattle.wire.specs.Numbers.{bytes_of}
 use Rattle.model.specs.Rows.{span}
 use Rattle.model.specs.Decision.{none}
-use Rattle.model.specs.ColumnLaws.{get_or_inside}
+use Rattle.model.proofs.ColumnLaws.{get_or_inside}
 use Rattle.snapshot.specs.declared.Counts.{Counts}
 use Rattle.snapshot.specs.Reading.{reading}
-use Rattle.snapshot.specs.Theorems.{accepts}
+use Rattle.snapshot.proofs.Theorems.{accepts}
 use Rattle.text.specs.Text.{each, Puts}
 use Rattle.text.specs.TextLaws.{puts_then}
 use Rattle.scan.specs.declared.Read.TheVariants as read

@@ -5,11 +5,11 @@ use Rattle.std.proofs.lemmas.List.Edits.{sets}
 use Rattle.std.proofs.Math.Pow.{are_bytes}
 use Rattle.refusal.specs.declared.Refusal.{Refusal}
 use Rattle.model.specs.Stability.{Between, Only, differing}
-use Rattle.model.specs.Theorems.{pair_determined, settled_only}
+use Rattle.model.proofs.Theorems.{pair_determined, settled_only}
 use Rattle.snapshot.specs.Format.{Snapshot, Valid}
-use Rattle.snapshot.specs.ChecksLaws.{refused_not_accepted, accepted_injective}
+use Rattle.snapshot.proofs.ChecksLaws.{refused_not_accepted, accepted_injective}
 use Rattle.snapshot.specs.Reading.{Answer, accepted, refused, reading}
-use Rattle.snapshot.specs.Theorems.{accepts}
+use Rattle.snapshot.proofs.Theorems.{accepts}
 use Rattle.snapshot.specs.Tables.{mesh}
 use Rattle.tables.specs.Theorems.{sound}
 use Rattle.reader.specs.TakenLaws.{one_refused}

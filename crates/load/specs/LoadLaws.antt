@@ -7,7 +7,7 @@ use Rattle.std.proofs.lemmas.List.{length-map}
 use Rattle.std.proofs.lemmas.List.Edits.{sets}
 use Rattle.model.specs.Rows.{table}
 use Rattle.model.specs.Decision.{Route}
-use Rattle.model.specs.ColumnLaws.{sets_front}
+use Rattle.model.proofs.ColumnLaws.{sets_front}
 use Rattle.model.specs.Columns as decided
 use Rattle.model.specs.Columns.{lent_mesh, Placed}
 use Rattle.model.specs.Stability.{Between}

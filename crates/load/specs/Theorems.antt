@@ -2,10 +2,10 @@
 use Rattle.std.specs.Prelude.{ℕ, ◌≡◌, List}
 use Rattle.std.proofs.Common.{sym, ap₂, ◌∙◌, subst}
 use Rattle.model.specs.Stability.{Between}
-use Rattle.model.specs.Theorems.{pair_determined}
+use Rattle.model.proofs.Theorems.{pair_determined}
 use Rattle.snapshot.specs.Format.{Snapshot}
 use Rattle.snapshot.specs.Tables.{mesh}
-use Rattle.snapshot.specs.ChecksLaws.{accepted_injective}
+use Rattle.snapshot.proofs.ChecksLaws.{accepted_injective}
 use Rattle.tables.specs.Theorems.{sound}
 use Rattle.decide.specs.declared.Differing.{Differing}
 use Rattle.decide.specs.Decide.{differing_of}

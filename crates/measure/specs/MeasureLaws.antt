@@ -3,7 +3,7 @@ use Rattle.std.specs.Prelude.{ℕ, ◌+◌, ◌≡◌, Bool, cond, [], ◌∷◌
 use Rattle.std.proofs.Common.{arith, sym, ap, ne_eqb}
 use Rattle.refusal.specs.declared.Refusal.{Refusal}
 use Rattle.refusal.specs.Numbers.{number_of, refuses}
-use Rattle.refusal.specs.NumbersLaws.{number_range}
+use Rattle.refusal.proofs.NumbersLaws.{number_range}
 use Rattle.measure.specs.Measure.{value_or}
 
 pub refused_number : (k above : ℕ) (r : Refusal) (at : ℕ) → above + number_of r ≡ value_or k above (refuses r at)

@@ -1,2 +1,2 @@
-// The definitions of document 01 and their theorems; open specs/Theorems.antt first. There is no code here.
+// The definitions of document 01 and their theorems; open proofs/Theorems.antt first. There is no code here.
 #![tactic(auto)]

@@ -3,13 +3,13 @@ use Rattle.std.specs.Prelude.{ℕ, ◌≡◌, refl, List, length}
 use Rattle.std.proofs.Common.{arith, sym, ap, ap₂, subst, ◌∙◌, true≢false}
 use Rattle.std.proofs.lemmas.List.Edits.{sets}
 use Rattle.refusal.specs.Numbers.{Said, gives}
-use Rattle.refusal.specs.NumbersLaws.{value, same_refusal, gives_refuses}
+use Rattle.refusal.proofs.NumbersLaws.{value, same_refusal, gives_refuses}
 use Rattle.snapshot.specs.declared.Counts.{Counts}
 use Rattle.snapshot.specs.Format.{Snapshot}
 use Rattle.snapshot.specs.Tables.{Tables, mesh}
 use Rattle.tables.specs.Theorems.{held_one, sound}
 use Rattle.model.specs.Stability.{Between}
-use Rattle.model.specs.Theorems.{pair_determined}
+use Rattle.model.proofs.Theorems.{pair_determined}
 use Rattle.decide.specs.Decide.{differing_of}
 use Rattle.outlook.specs.declared.Outlook.{Outlook}
 use Rattle.outlook.specs.declared.Outlook.TheVariants.{Forecast, Refused}

@@ -10,10 +10,10 @@ use Rattle.snapshot.specs.declared.Counts.{Counts}
 use Rattle.snapshot.specs.Format.{Snapshot, Valid}
 use Rattle.snapshot.specs.Limits.{most_routers, most_routes}
 use Rattle.snapshot.specs.Ranges.{any_of, none}
-use Rattle.snapshot.specs.RangesLaws.{none_any}
-use Rattle.snapshot.specs.TablesLaws.{has_room}
+use Rattle.snapshot.proofs.RangesLaws.{none_any}
+use Rattle.snapshot.proofs.TablesLaws.{has_room}
 use Rattle.snapshot.specs.Tables.{Tables, short, Room, Held, routes_of, mesh}
-use Rattle.snapshot.specs.ChecksLaws.{routers_few}
+use Rattle.snapshot.proofs.ChecksLaws.{routers_few}
 use Rattle.tables.specs.Theorems.{held_ids, held_distance, held_count, held_fits, held_column, routes_few, absent_zero, sound}
 use Rattle.tables.specs.Judging.{Holding}
 use Rattle.model.specs.Rows.{keep, span, table, column, start}
@@ -21,11 +21,11 @@ use Rattle.model.specs.Decision.{Route, Mesh, metric, choice}
 use Rattle.model.specs.Stability.{Sound, Between, available}
 use Rattle.model.specs.Contest.{early, late, at_place, holding, earliest, latest, contest}
 use Rattle.model.specs.Columns.{Columns, columns, lent_mesh, Placed}
-use Rattle.model.specs.MeshLaws.{Alike, sound_alike, between_alike}
-use Rattle.model.specs.NumberLaws.{le_or_lt}
-use Rattle.model.specs.RowLaws.{by, table_length}
-use Rattle.model.specs.ColumnLaws.{sets_front}
-use Rattle.model.specs.Theorems.{forecast, pair_determined}
+use Rattle.model.proofs.MeshLaws.{Alike, sound_alike, between_alike}
+use Rattle.model.proofs.NumberLaws.{le_or_lt}
+use Rattle.model.proofs.RowLaws.{by, table_length}
+use Rattle.model.proofs.ColumnLaws.{sets_front}
+use Rattle.model.proofs.Theorems.{forecast, pair_determined}
 use Rattle.decide.specs.declared.Differing.{Differing}
 use Rattle.decide.specs.Decide.{differing_of, Decided}
 use Rattle.outlook.specs.declared.Outlook.TheVariants.{Forecast}

@@ -5,7 +5,7 @@ use Rattle.snapshot.specs.Format.{Snapshot, Valid}
 use Rattle.snapshot.specs.Tables.{Tables, mesh}
 use Rattle.tables.specs.Theorems.{sound}
 use Rattle.model.specs.Stability.{Between, Only}
-use Rattle.model.specs.Theorems.{settled_only}
+use Rattle.model.proofs.Theorems.{settled_only}
 use Rattle.decide.specs.Decide.{differing_of}
 use Rattle.outlook.specs.declared.Outlook.{Outlook}
 use Rattle.outlook.specs.Outlook.{Forecasts, said}

@@ -6,16 +6,16 @@ use Rattle.std.proofs.lemmas.List.Edits.{sets}
 use Rattle.std.proofs.Math.Seq.{drop-append_seam}
 use Rattle.refusal.specs.declared.Refusal.{Refusal}
 use Rattle.refusal.specs.Numbers.{number_of, Said, gives}
-use Rattle.refusal.specs.NumbersLaws.{value, same_refusal, gives_refuses}
+use Rattle.refusal.proofs.NumbersLaws.{value, same_refusal, gives_refuses}
 use Rattle.model.specs.Rows.{span}
-use Rattle.model.specs.RowLaws.{in_span}
+use Rattle.model.proofs.RowLaws.{in_span}
 use Rattle.model.specs.Stability.{Between}
-use Rattle.model.specs.Theorems.{pair_determined}
-use Rattle.snapshot.specs.ChecksLaws.{refused_not_accepted, accepted_injective}
+use Rattle.model.proofs.Theorems.{pair_determined}
+use Rattle.snapshot.proofs.ChecksLaws.{refused_not_accepted, accepted_injective}
 use Rattle.snapshot.specs.Format.{Snapshot, Valid}
 use Rattle.snapshot.specs.Reading.{Answer, refused}
 use Rattle.snapshot.specs.Tables.{mesh}
-use Rattle.snapshot.specs.Theorems.{accepts}
+use Rattle.snapshot.proofs.Theorems.{accepts}
 use Rattle.tables.specs.Theorems.{sound}
 use Rattle.reader.specs.TakenLaws.{one_refused}
 use Rattle.text.specs.Text.{ascii, decimal}

@@ -3,12 +3,12 @@ use Rattle.std.specs.Prelude.{ℕ, ◌≤◌, ◌<◌, ◌≡◌, ◌⊎◌, Lis
 use Rattle.std.proofs.Common.{arith, sym, ap, ap₂, subst, ◌∙◌, inl, inr, take_at}
 use Rattle.std.proofs.lemmas.List.Edits.{sets}
 use Rattle.model.specs.Rows.{table}
-use Rattle.model.specs.RowLaws.{first_cases, table_at, table_length}
-use Rattle.model.specs.ColumnLaws.{sets_front}
+use Rattle.model.proofs.RowLaws.{first_cases, table_at, table_length}
+use Rattle.model.proofs.ColumnLaws.{sets_front}
 use Rattle.model.specs.Decision.{Mesh, none, decided, choice}
-use Rattle.model.specs.DecisionLaws.{in_all, decided_in}
+use Rattle.model.proofs.DecisionLaws.{in_all, decided_in}
 use Rattle.model.specs.Stability.{available, differing}
-use Rattle.model.specs.StabilityLaws.{available_all}
+use Rattle.model.proofs.StabilityLaws.{available_all}
 use Rattle.model.specs.Contest.{early, late, at_place, holding, earliest, latest, contest}
 use Rattle.decide.specs.declared.Differing.{Differing}
 use Rattle.outlook.specs.Outlook.{Shown}

@@ -6,10 +6,10 @@ use Rattle.std.proofs.Math.ListN.{get_or-append}
 use Rattle.std.proofs.lemmas.List.Edits.{sets, sets-eq}
 use Rattle.std.proofs.Math.Pow.{are_bytes}
 use Rattle.model.specs.Rows.{keep, span, column, start}
-use Rattle.model.specs.RowLaws.{In, here, there, in_span}
+use Rattle.model.proofs.RowLaws.{In, here, there, in_span}
 use Rattle.model.specs.Decision.{Mesh, none}
 use Rattle.model.specs.Contest.{early, late}
-use Rattle.model.specs.Theorems.{forecast}
+use Rattle.model.proofs.Theorems.{forecast}
 use Rattle.model.specs.Columns.{Columns, lent_mesh}
 use Rattle.snapshot.specs.declared.Counts.{Counts}
 use Rattle.snapshot.specs.Limits.{most_prefixes}

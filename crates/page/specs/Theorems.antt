@@ -3,11 +3,11 @@ use Rattle.std.specs.Prelude.{ℕ, ◌<◌, ◌≡◌, ◌↔◌, List, ◌++◌
 use Rattle.std.proofs.Common.{ap}
 use Rattle.std.proofs.Math.Pow.{are_bytes}
 use Rattle.model.specs.Stability.{Between, Only, differing}
-use Rattle.model.specs.Theorems.{settled_only}
+use Rattle.model.proofs.Theorems.{settled_only}
 use Rattle.snapshot.specs.Format.{Snapshot}
 use Rattle.snapshot.specs.Reading.{accepted, reading}
 use Rattle.snapshot.specs.Tables.{mesh}
-use Rattle.snapshot.specs.Theorems.{accepts}
+use Rattle.snapshot.proofs.Theorems.{accepts}
 use Rattle.tables.specs.Theorems.{sound}
 use Rattle.text.specs.Text.{ascii, decimal}
 use Rattle.lines.specs.Lines.{dotted, prefix_line}

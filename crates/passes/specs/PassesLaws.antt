@@ -4,8 +4,8 @@ use Rattle.std.proofs.Common.{zero-le, not-suc-le-zero, add-one, arith, sym, ap,
 use Rattle.std.proofs.Math.Decide.{dec_le}
 use Rattle.std.proofs.lemmas.Bool.{lt-leb}
 use Rattle.model.specs.Rows.{table, column, start}
-use Rattle.model.specs.RowLaws.{table_length, table_at, table_same, start_first, start_next}
-use Rattle.model.specs.LoopLaws.{Stored, stored, stored_next, stored_skip}
+use Rattle.model.proofs.RowLaws.{table_length, table_at, table_same, start_first, start_next}
+use Rattle.model.proofs.LoopLaws.{Stored, stored, stored_next, stored_skip}
 use Rattle.model.specs.Decision.{Route}
 use Rattle.snapshot.specs.Tables.{Columns, columns}
 use Rattle.tables.specs.Judging.{route_at}

@@ -10,22 +10,22 @@ use Rattle.std.proofs.lemmas.List.Edits.{sets, sets-eq}
 use Rattle.std.proofs.Math.Seq.{length-sets}
 use Rattle.std.proofs.lemmas.Bool.{lt-leb}
 use Rattle.model.specs.Rows.{span, table, column, start}
-use Rattle.model.specs.RowLaws.{table_length, table_at, table_same, table_append, table_snoc, start_first, start_next}
+use Rattle.model.proofs.RowLaws.{table_length, table_at, table_same, table_append, table_snoc, start_first, start_next}
 use Rattle.model.specs.Decision.{Route}
 use Rattle.snapshot.specs.declared.Counts.{Counts}
 use Rattle.snapshot.specs.Limits.{most_routes}
 use Rattle.snapshot.specs.Format.{Prefix, Snapshot, Valid}
 use Rattle.snapshot.specs.Tables.{Tables, all_routes, filled, Held, Room}
-use Rattle.snapshot.specs.TablesLaws.{all_append}
+use Rattle.snapshot.proofs.TablesLaws.{all_append}
 use Rattle.tables.specs.Judging.{route_at, routes_at, prefix_at}
 use Rattle.tables.specs.PartsLaws.{columns_are, holding_parts}
 use Rattle.tables.specs.HeldLaws.{held_is}
 use Rattle.policy.specs.Policy.{Policy}
 use Rattle.policy.specs.Policy as policies
 use Rattle.policy.specs.Rewriting.{ruled, ruled_prefix, rewritten, with_rows, put_ruled}
-use Rattle.policy.specs.RewritingLaws.{filled_ruled}
+use Rattle.policy.proofs.RewritingLaws.{filled_ruled}
 use Rattle.policy.specs.Passing.{unruled, passes}
-use Rattle.policy.specs.PassingLaws.{passes_ruled}
+use Rattle.policy.proofs.PassingLaws.{passes_ruled}
 use Rattle.passes.specs.Passes.{entry, entries, altered, owner_of}
 use Rattle.passes.specs.PassesLaws.{entry_new, entry_old}
 

@@ -9,7 +9,7 @@ use Rattle.tables.specs.Judging.{route_at}
 use Rattle.policy.specs.Policy.{Clause, Session}
 use Rattle.policy.specs.Rewriting.{preferred, by_session}
 use Rattle.policy.specs.Passing.{pass}
-use Rattle.policy.specs.PassingLaws.{pass_as}
+use Rattle.policy.proofs.PassingLaws.{pass_as}
 use Rattle.clauses.specs.declared.Named.{Named}
 use Rattle.clauses.specs.Walking.{Wide, session_of, session_by, is_session, named_at, behind_clauses, sessions_from}
 use Rattle.clauses.specs.WalkingLaws.{no_session, sessions_step}

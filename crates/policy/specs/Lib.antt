@@ -1,14 +1,5 @@
 pub mod Policy
 pub mod Reading
 pub mod Rewriting
-pub mod AcceptsLaws
-pub mod ReturnsLaws
-pub mod RewritingLaws
 pub mod Passing
-pub mod PassingLaws
-pub mod PlaceLaws
 pub mod Longest
-pub mod LongestLaws
-pub mod BorderLaws
-pub mod Examples
-pub mod Theorems

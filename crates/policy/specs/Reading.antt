@@ -13,6 +13,16 @@ on_latest f [] = []
 on_latest f (s ∷ []) = f s ∷ []
 on_latest f (s ∷ t ∷ ss) = s ∷ on_latest f (t ∷ ss)
 
+-- the session before the first: no session has its name
+abbrev pub nobody : Session
+nobody = record { router = 0; peer = 0; zero = false; clauses = [] }
+
+-- the latest session
+abbrev pub last : Policy → Session
+last [] = nobody
+last (s ∷ []) = s
+last (s ∷ t ∷ ss) = last (t ∷ ss)
+
 -- a session with one more clause
 abbrev pub with_clause : Clause → Session → Session
 with_clause c s = record { router = s.router; peer = s.peer; zero = s.zero; clauses = s.clauses ++ (c ∷ []) }

@@ -12,7 +12,7 @@ use Rattle.snapshot.specs.Limits.{most_prefixes}
 use Rattle.snapshot.specs.Ranges.{any_of}
 use Rattle.snapshot.specs.Format.{Snapshot}
 use Rattle.snapshot.specs.Reading.{Answer, accepted, refused, reading}
-use Rattle.snapshot.specs.Theorems.{accepts}
+use Rattle.snapshot.proofs.Theorems.{accepts}
 use Rattle.snapshot.specs.Tables.{Tables, short, filled, counts_of}
 use Rattle.scan.specs.declared.Read.{Read}
 use Rattle.scan.specs.declared.Read.TheVariants as read

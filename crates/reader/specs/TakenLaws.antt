@@ -4,15 +4,15 @@ use Rattle.std.proofs.Common.{sym, ap, ◌∙◌, subst, subst₂}
 use Rattle.std.proofs.Math.Pow.{are_bytes}
 use Rattle.refusal.specs.declared.Refusal.{Refusal}
 use Rattle.refusal.specs.declared.Refusal.TheVariants as refusal
-use Rattle.refusal.specs.NumbersLaws.{gives_refuses}
-use Rattle.model.specs.RowLaws.{by}
+use Rattle.refusal.proofs.NumbersLaws.{gives_refuses}
+use Rattle.model.proofs.RowLaws.{by}
 use Rattle.snapshot.specs.declared.Counts.{Counts}
 use Rattle.snapshot.specs.Ranges.{any_of}
-use Rattle.snapshot.specs.RangesLaws.{none_any}
+use Rattle.snapshot.proofs.RangesLaws.{none_any}
 use Rattle.snapshot.specs.Reading.{Answer, accepted, refused, reading}
-use Rattle.snapshot.specs.Theorems.{accepts}
+use Rattle.snapshot.proofs.Theorems.{accepts}
 use Rattle.snapshot.specs.Tables.{Tables, short, Held, Room}
-use Rattle.snapshot.specs.TablesLaws.{has_room}
+use Rattle.snapshot.proofs.TablesLaws.{has_room}
 use Rattle.tables.specs.Judging.{Holding}
 use Rattle.tables.specs.FilledLaws.{filled_held, filled_room}
 use Rattle.scan.specs.declared.Read.{Read}

@@ -7,7 +7,7 @@ use Rattle.wire.specs.Numbers.{bytes_of}
 use Rattle.wire.specs.NumbersLaws.{length_bytes}
 use Rattle.model.specs.Decision.{Route}
 use Rattle.snapshot.specs.Records.{Form, four_byte, route_form_by, route_forms, size, spread, written, written_in}
-use Rattle.snapshot.specs.RecordsLaws.{of_routes}
+use Rattle.snapshot.proofs.RecordsLaws.{of_routes}
 use Rattle.snapshot.specs.Format.{route_fields}
 use Rattle.records.specs.Putting.{front_form, front_bytes, middle_bytes, back_bytes, Space, Puts}
 

@@ -10,15 +10,15 @@ use Rattle.std.proofs.Math.Facts.{T_not}
 use Rattle.refusal.specs.declared.Refusal.{Refusal}
 use Rattle.refusal.specs.declared.Refusal.TheVariants as refusal
 use Rattle.refusal.specs.Numbers.{Said, gives}
-use Rattle.refusal.specs.NumbersLaws.{gives_refuses}
-use Rattle.model.specs.RowLaws.{test_false}
+use Rattle.refusal.proofs.NumbersLaws.{gives_refuses}
+use Rattle.model.proofs.RowLaws.{test_false}
 use Rattle.snapshot.specs.declared.Counts.{Counts}
 use Rattle.snapshot.specs.Ranges.{none, any_of}
 use Rattle.snapshot.specs.Format.{Snapshot, encode, Valid}
 use Rattle.snapshot.specs.Reading.{Answer, AnswerOf, accepted, reading}
-use Rattle.snapshot.specs.Theorems as snapshots
+use Rattle.snapshot.proofs.Theorems as snapshots
 use Rattle.snapshot.specs.Tables.{Tables, short, filled, Held, Room}
-use Rattle.snapshot.specs.TablesLaws.{has_room, room_enough}
+use Rattle.snapshot.proofs.TablesLaws.{has_room, room_enough}
 use Rattle.tables.specs.FilledLaws.{filled_room}
 use Rattle.scan.specs.declared.Read.{Read}
 use Rattle.scan.specs.declared.Read.TheVariants as read
@@ -35,7 +35,7 @@ use Rattle.policy.specs.Policy.{Policy}
 use Rattle.policy.specs.Policy as rules
 use Rattle.policy.specs.Reading as policies
 use Rattle.policy.specs.Rewriting.{rewritten}
-use Rattle.policy.specs.Theorems as theorems
+use Rattle.policy.proofs.Theorems as theorems
 use Rattle.apply.specs.declared.Applied.{Applied}
 use Rattle.apply.specs.declared.Applied.TheVariants as applied
 use Rattle.apply.specs.Applying as applying

@@ -3,7 +3,7 @@ use Rattle.std.specs.Prelude.{ℕ, ◌+◌, ◌≡◌, refl, List}
 use Rattle.std.proofs.Common.{arith, sym, ap, ap₂, ◌∙◌}
 use Rattle.refusal.specs.declared.Refusal.{Refusal}
 use Rattle.refusal.specs.Numbers.{Said, number_of}
-use Rattle.refusal.specs.NumbersLaws.{value, number_tells, number_range}
+use Rattle.refusal.proofs.NumbersLaws.{value, number_tells, number_range}
 use Rattle.revise.specs.declared.Revised.{Revised}
 use Rattle.revise.specs.declared.Revised.TheVariants.{Rewritten, SnapshotRefused, PolicyRefused}
 use Rattle.revise.specs.Revising.{refuses, said, revised_answer, revised_out}

@@ -7,12 +7,12 @@ use Rattle.std.proofs.Math.Pow.{are_bytes}
 use Rattle.snapshot.specs.declared.Counts.{Counts}
 use Rattle.refusal.specs.declared.Refusal.TheVariants.{Room}
 use Rattle.snapshot.specs.Ranges.{any_of}
-use Rattle.snapshot.specs.RangesLaws.{none_any}
+use Rattle.snapshot.proofs.RangesLaws.{none_any}
 use Rattle.snapshot.specs.Format.{encode}
 use Rattle.snapshot.specs.Reading.{reading, accepted}
 use Rattle.snapshot.specs.Tables.{Tables, short, Held}
-use Rattle.snapshot.specs.TablesLaws.{has_room}
-use Rattle.snapshot.specs.Theorems as snapshot
+use Rattle.snapshot.proofs.TablesLaws.{has_room}
+use Rattle.snapshot.proofs.Theorems as snapshot
 use Rattle.tables.specs.FilledLaws.{filled_held}
 use Rattle.scan.specs.declared.Read.{Read}
 use Rattle.scan.specs.declared.Read.TheVariants as read

@@ -2,9 +2,9 @@
 use Rattle.std.specs.Prelude.{ℕ, ◌≡◌, List, T}
 use Rattle.std.proofs.Math.Pow.{are_bytes}
 use Rattle.snapshot.specs.declared.Counts.{Counts}
-use Rattle.snapshot.specs.Theorems.{accepts}
+use Rattle.snapshot.proofs.Theorems.{accepts}
 use Rattle.snapshot.specs.Tables.{Tables}
-use Rattle.snapshot.specs.TablesLaws.{room_enough}
+use Rattle.snapshot.proofs.TablesLaws.{room_enough}
 use Rattle.scan.specs.declared.Read.{Read}
 use Rattle.scan.specs.declared.Read.TheVariants as read
 use Rattle.scan.specs.Scan.{said}

@@ -11,8 +11,8 @@ use Rattle.std.proofs.Math.Dec.{ltb→lt}
 use Rattle.refusal.specs.declared.Refusal.{Refusal}
 use Rattle.refusal.specs.declared.Refusal.TheVariants.{Tail}
 use Rattle.refusal.specs.Numbers.{Said, refuses, gives}
-use Rattle.refusal.specs.NumbersLaws.{same_refusal, gives_refuses}
-use Rattle.model.specs.RowLaws.{table_length, table_snoc}
+use Rattle.refusal.proofs.NumbersLaws.{same_refusal, gives_refuses}
+use Rattle.model.proofs.RowLaws.{table_length, table_snoc}
 use Rattle.model.specs.Decision as model
 use Rattle.snapshot.specs.declared.Route.{Route}
 use Rattle.snapshot.specs.Limits.{most_prefixes, most_in_prefix, most_routes}
@@ -21,9 +21,9 @@ use Rattle.snapshot.specs.Plain.{route_is}
 use Rattle.snapshot.specs.Records.{Form, forms, only, count_form, router_form, distance_form, prefix_form, route_form_by, route_forms, end_form, form_of, stands, size, values_at}
 use Rattle.snapshot.specs.Format.{Snapshot, Prefix, Pair, pairs, row, rows, records, routes_in, latest, Check, Holds}
 use Rattle.snapshot.specs.Reading.{Answer, accepted, refused, unless, prefix_extra, prefix_values, prefix_record, route_extra, route_values, route_record, end_record, open_routes, add_route, with_prefixes, prefix_of, route_of, tail, items, distance_record, distances, router_record, routers, count_record, reading}
-use Rattle.snapshot.specs.ChecksLaws.{judged_cases, passed, length_snoc, latest_snoc, routes_in_append, routes_in_add, length_add, some_prefix}
-use Rattle.snapshot.specs.PlaceLaws.{kind_at, reading_count, routers_one, routers_none, distances_one, distances_none, items_one_prefix, items_one_route, items_last, tail_none, tail_some}
-use Rattle.snapshot.specs.PairsLaws.{due_row, due_equal, due_other, due_row_end, due_end}
+use Rattle.snapshot.proofs.ChecksLaws.{judged_cases, passed, length_snoc, latest_snoc, routes_in_append, routes_in_add, length_add, some_prefix}
+use Rattle.snapshot.proofs.PlaceLaws.{kind_at, reading_count, routers_one, routers_none, distances_one, distances_none, items_one_prefix, items_one_route, items_last, tail_none, tail_some}
+use Rattle.snapshot.proofs.PairsLaws.{due_row, due_equal, due_other, due_row_end, due_end}
 use Rattle.cursor.specs.declared.Cursor.{Cursor}
 use Rattle.cursor.specs.declared.Network.{Network}
 use Rattle.cursor.specs.declared.Sofar.{Sofar}
@@ -42,7 +42,7 @@ use Rattle.scan.specs.declared.Read.{Read}
 use Rattle.scan.specs.declared.Read.TheVariants as read
 use Rattle.scan.specs.Theorems.{said_tells}
 use Rattle.scan.specs.Scan.{said, said_of, told, answered, Routers, Distances, Rows, Row, Items, nothing, more_prefix, more_route}
-use Rattle.snapshot.specs.ReturnsLaws.{open_last}
+use Rattle.snapshot.proofs.ReturnsLaws.{open_last}
 
 -- ---- an answer and what it says
 

@@ -2,7 +2,7 @@
 use Rattle.std.specs.Prelude.{◌≡◌}
 use Rattle.std.proofs.Common.{sym, ap}
 use Rattle.refusal.specs.Numbers.{Said}
-use Rattle.refusal.specs.NumbersLaws.{value, same_refusal, gives_refuses}
+use Rattle.refusal.proofs.NumbersLaws.{value, same_refusal, gives_refuses}
 use Rattle.scan.specs.declared.Read.{Read}
 use Rattle.scan.specs.declared.Read.TheVariants.{Accepted, Refused}
 use Rattle.scan.specs.Scan.{said}

@@ -11,8 +11,7 @@ use Rattle.cursor.specs.declared.Cursor.{Cursor}
 use Rattle.cursor.specs.Steps.{finding, body_length}
 use Rattle.cursor.specs.StepsLaws.{extra_checks}
 use Rattle.policy.specs.Policy.{Policy, most_sessions, most_clauses, policy_forms, clause_asn_tests, records_in}
-use Rattle.policy.specs.Reading.{bare, Entry, entries, among, records_from, reading}
-use Rattle.policy.specs.PlaceLaws.{last}
+use Rattle.policy.specs.Reading.{last, bare, Entry, entries, among, records_from, reading}
 use Rattle.sessions.specs.declared.Judged.{Judged}
 use Rattle.sessions.specs.declared.Judged.TheVariants as verdict
 use Rattle.sessions.specs.declared.Latest.{Latest}

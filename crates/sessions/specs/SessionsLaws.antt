@@ -14,7 +14,7 @@ use Rattle.snapshot.specs.Ranges.{rises}
 use Rattle.snapshot.specs.Records.{Form, only, sum, size, values_at}
 use Rattle.snapshot.specs.Format.{Check, ◌else◌, judged, Holds, latest}
 use Rattle.snapshot.specs.Reading.{AnswerOf, refused, unless, either, tail, end_record}
-use Rattle.snapshot.specs.ChecksLaws.{length_snoc}
+use Rattle.snapshot.proofs.ChecksLaws.{length_snoc}
 use Rattle.cursor.specs.declared.Cursor.{Cursor}
 use Rattle.cursor.specs.declared.Body.{Body}
 use Rattle.cursor.specs.declared.Finding.{Finding}
@@ -22,9 +22,9 @@ use Rattle.cursor.specs.declared.Finding.TheVariants.{Clear, Fault}
 use Rattle.cursor.specs.Steps.{finding, body_of, body_length, opening_checks, end_by, behind, judged_at, ending}
 use Rattle.cursor.specs.StepsLaws.{on_finding, finding_holds, holds_finding, judged_finding, opened, ltb_leb, extra_checks, record_found, end_table}
 use Rattle.policy.specs.Policy.{Clause, Session, Policy, most_sessions, most_clauses, policy_forms, exact_form, direct_form, any_form, clause_checks, session_checks, records_in}
-use Rattle.policy.specs.Reading.{with_clause, with_zero, bare, on_latest, Entry, session_entry, clause_entry, zero_entry, exact_clause, direct_clause, any_clause, entries, among, entry_record, records_from, reading}
-use Rattle.policy.specs.AcceptsLaws.{length_on}
-use Rattle.policy.specs.PlaceLaws.{records_one, last, latest_last, last_snoc, last_on, records_session, records_clause, records_zero}
+use Rattle.policy.specs.Reading.{last, with_clause, with_zero, bare, on_latest, Entry, session_entry, clause_entry, zero_entry, exact_clause, direct_clause, any_clause, entries, among, entry_record, records_from, reading}
+use Rattle.policy.proofs.AcceptsLaws.{length_on}
+use Rattle.policy.proofs.PlaceLaws.{records_one, latest_last, last_snoc, last_on, records_session, records_clause, records_zero}
 use Rattle.sessions.specs.declared.Latest.{Latest}
 use Rattle.sessions.specs.declared.Item.TheVariants.{Next}
 use Rattle.sessions.specs.Sessions.{said_of, astray_of, full_of, session_faults, faults_of, more_session, more_of, next_of, Tells, Reads, Known, Agrees, Listed, listed, Other, Follows}

@@ -3,7 +3,7 @@ use Rattle.std.specs.Prelude.{◌≡◌, refl, ℕ, []}
 use Rattle.std.proofs.Common.{sym}
 use Rattle.refusal.specs.declared.Refusal.{Refusal}
 use Rattle.refusal.specs.Numbers.{refuses, gives}
-use Rattle.refusal.specs.NumbersLaws.{same_refusal, gives_refuses}
+use Rattle.refusal.proofs.NumbersLaws.{same_refusal, gives_refuses}
 use Rattle.snapshot.specs.Reading.{AnswerOf, accepted, refused}
 use Rattle.policy.specs.Policy.{Policy}
 use Rattle.sessions.specs.declared.Judged.{Judged}

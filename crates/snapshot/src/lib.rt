@@ -1,4 +1,4 @@
-// The snapshot: its definitions and theorems (open specs/Theorems.antt first), its limits, the sizes of its records, and the tests
+// The snapshot: its definitions and theorems (open proofs/Theorems.antt first), its limits, the sizes of its records, and the tests
 // of its ranges and of the tables' room, which reading and the judging of tables share.
 #![tactic(auto)]
 

@@ -6,13 +6,13 @@ use Rattle.std.proofs.lemmas.List.Edits.{sets}
 use Rattle.std.proofs.Math.Seq.{length-sets}
 use Rattle.model.specs.Rows.{table}
 use Rattle.model.specs.Decision.{Route}
-use Rattle.model.specs.RowLaws.{table_length, table_at, table_same}
+use Rattle.model.proofs.RowLaws.{table_length, table_at, table_same}
 use Rattle.snapshot.specs.Limits.{stride, most_routes}
 use Rattle.snapshot.specs.Format.{Snapshot, distance, Valid}
 use Rattle.snapshot.specs.Tables.{Columns, Tables, used, put_distances, put_routes, all_routes, filled, counts_of, Held, Room, Wide}
-use Rattle.snapshot.specs.ChecksLaws.{count_range}
+use Rattle.snapshot.proofs.ChecksLaws.{count_range}
 use Rattle.tables.specs.ListsLaws.{sets_twice}
-use Rattle.snapshot.specs.TablesLaws.{length_all}
+use Rattle.snapshot.proofs.TablesLaws.{length_all}
 use Rattle.tables.specs.PartsLaws.{tables_are, columns_are}
 
 -- ---- to fill twice is to fill once

@@ -7,16 +7,16 @@ use Rattle.std.proofs.lemmas.List.Edits.{sets}
 use Rattle.std.proofs.Math.Arith.{digits_lt, digits_div, digits_mod}
 use Rattle.model.specs.Rows.{table, column, start}
 use Rattle.model.specs.Decision.{Route}
-use Rattle.model.specs.RowLaws.{table_at, table_same}
+use Rattle.model.proofs.RowLaws.{table_at, table_same}
 use Rattle.snapshot.specs.declared.Counts.{Counts}
 use Rattle.snapshot.specs.Limits.{most_routers, stride, most_prefixes, most_routes}
 use Rattle.snapshot.specs.Format.{Prefix, Snapshot, Pair, pairs, pairs_before, distance, routes_in, Valid}
 use Rattle.snapshot.specs.Tables.{Columns, Tables, used, put_distances, all_routes, filled, Held, Room}
-use Rattle.snapshot.specs.ChecksLaws.{routers_few, routes_in_append}
-use Rattle.snapshot.specs.PairsLaws.{pairs_length, pair_two, pair_at, pair_of}
+use Rattle.snapshot.proofs.ChecksLaws.{routers_few, routes_in_append}
+use Rattle.snapshot.proofs.PairsLaws.{pairs_length, pair_two, pair_at, pair_of}
 use Rattle.tables.specs.Judging.{route_at, routes_at, prefix_at, cell, snapshot_of, Below}
 use Rattle.tables.specs.ListsLaws.{as_table, map_at, stands}
-use Rattle.snapshot.specs.TablesLaws.{length_all}
+use Rattle.snapshot.proofs.TablesLaws.{length_all}
 
 -- ---- distances
 

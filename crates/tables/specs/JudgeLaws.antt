@@ -4,15 +4,15 @@ use Rattle.std.proofs.Common.{zero-le, arith, sym, ap, ◌∙◌, subst, true≢
 use Rattle.std.proofs.lemmas.Bool.{false≢true, eqb-false, not-true, not-false}
 use Rattle.model.specs.Rows.{some, table, column, start}
 use Rattle.model.specs.Decision.{Route}
-use Rattle.model.specs.RowLaws.{table_length, start_first, start_next, start_within, by, or_false, test_true}
+use Rattle.model.proofs.RowLaws.{table_length, start_first, start_next, start_within, by, or_false, test_true}
 use Rattle.snapshot.specs.declared.Counts.{Counts}
 use Rattle.snapshot.specs.Limits.{most_routers, farthest, most_prefixes, most_in_prefix, most_routes, last_two_byte_asn, last_asn, longest_path, last_origin}
 use Rattle.snapshot.specs.Ranges.{none, any_of, count_tests, id_tests, prefix_tests, asn_tests, route_tests, rises, rises_route}
-use Rattle.snapshot.specs.RangesLaws.{none_any, none_at}
+use Rattle.snapshot.proofs.RangesLaws.{none_any, none_at}
 use Rattle.snapshot.specs.Records.{four_byte, route_form_by, route_forms, Fits}
 use Rattle.snapshot.specs.Format.{GoodId, GoodRoute, Each, latest, route_fields}
 use Rattle.snapshot.specs.Tables.{Columns, Tables}
-use Rattle.snapshot.specs.ChecksLaws.{count_range}
+use Rattle.snapshot.proofs.ChecksLaws.{count_range}
 use Rattle.tables.specs.Judging.{route_at, routes_at, prefix_at, cell, late_at, CellGood, RouteGood, PrefixGood, Below, InRange, Totalled, Decides}
 use Rattle.tables.specs.ListsLaws.{latest_table, each_below, below_each, none_table, table_none}
 use Rattle.tables.specs.PartsLaws.{cell_zero, cell_range, cell_good}

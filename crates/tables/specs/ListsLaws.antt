@@ -6,10 +6,10 @@ use Rattle.std.proofs.Math.ListN.{get_or-append}
 use Rattle.std.proofs.lemmas.List.Edits.{sets}
 use Rattle.std.proofs.Math.Seq.{length-sets, drop-append_seam}
 use Rattle.model.specs.Rows.{some, span, table, column}
-use Rattle.model.specs.RowLaws.{table_length, table_at, table_same, by, table_snoc}
-use Rattle.model.specs.ColumnLaws.{sets_front}
+use Rattle.model.proofs.RowLaws.{table_length, table_at, table_same, by, table_snoc}
+use Rattle.model.proofs.ColumnLaws.{sets_front}
 use Rattle.snapshot.specs.Format.{Each, latest}
-use Rattle.snapshot.specs.ChecksLaws.{latest_snoc}
+use Rattle.snapshot.proofs.ChecksLaws.{latest_snoc}
 use Rattle.tables.specs.Judging.{Below}
 
 -- ---- tables seen as lists

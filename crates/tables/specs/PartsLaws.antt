@@ -7,18 +7,18 @@ use Rattle.std.proofs.lemmas.List.{length-map}
 use Rattle.std.proofs.lemmas.List.Edits.{sets}
 use Rattle.model.specs.Rows.{span, table, column, start}
 use Rattle.model.specs.Decision.{Route}
-use Rattle.model.specs.RowLaws.{table_length, table_at, table_same, by, both, table_append, table_snoc}
+use Rattle.model.proofs.RowLaws.{table_length, table_at, table_same, by, both, table_append, table_snoc}
 use Rattle.snapshot.specs.declared.Counts.{Counts}
 use Rattle.snapshot.specs.Limits.{stride, most_routes}
 use Rattle.snapshot.specs.Ranges.{none, distance_tests}
-use Rattle.snapshot.specs.RangesLaws.{none_cons, none_split}
+use Rattle.snapshot.proofs.RangesLaws.{none_cons, none_split}
 use Rattle.snapshot.specs.Format.{Snapshot, Pair, pairs, pairs_before, distance, routes_in, Each, GoodId, GoodDistance, GoodPrefix, Valid}
 use Rattle.snapshot.specs.Tables.{Columns, Tables, columns, tables, used, put_distances, put_routes, all_routes, Held, Room, Wide}
-use Rattle.snapshot.specs.ChecksLaws.{count_range}
-use Rattle.snapshot.specs.PairsLaws.{pairs_length, pair_two, pair_of}
+use Rattle.snapshot.proofs.ChecksLaws.{count_range}
+use Rattle.snapshot.proofs.PairsLaws.{pairs_length, pair_two, pair_of}
 use Rattle.tables.specs.Judging.{route_at, prefix_at, cell, snapshot_of, Below, cell_tests, CellGood, IdGood, InRange, Totalled, Parts, Decides, Holding, Judged}
 use Rattle.tables.specs.ListsLaws.{as_table, map_at, each_below, below_each, stays}
-use Rattle.snapshot.specs.TablesLaws.{length_all, all_append}
+use Rattle.snapshot.proofs.TablesLaws.{length_all, all_append}
 use Rattle.tables.specs.HeldLaws.{no_pair, cells, cells_at, distance_apart, distance_equal, held_is, cell_is, n_is}
 
 -- ---- a cell of the distances

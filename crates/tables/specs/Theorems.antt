@@ -9,19 +9,19 @@ use Rattle.std.proofs.Math.Facts.{or_yes, and_yes, ltb_yes, eqb_yes, T_not}
 use Rattle.refusal.specs.declared.Refusal.{Refusal}
 use Rattle.refusal.specs.declared.Refusal.TheVariants as refusal
 use Rattle.refusal.specs.Numbers.{number_of}
-use Rattle.refusal.specs.NumbersLaws.{number_tells, number_range}
+use Rattle.refusal.proofs.NumbersLaws.{number_tells, number_range}
 use Rattle.model.specs.Rows.{span, table, column, some, start}
 use Rattle.model.specs.Decision.{Route}
 use Rattle.model.specs.Stability.{Sound}
-use Rattle.model.specs.SoundLaws.{Rising, rising_sound}
-use Rattle.model.specs.RowLaws.{table_length, table_at, start_within}
+use Rattle.model.proofs.SoundLaws.{Rising, rising_sound}
+use Rattle.model.proofs.RowLaws.{table_length, table_at, start_within}
 use Rattle.snapshot.specs.declared.Counts.{Counts}
 use Rattle.snapshot.specs.Limits.{most_in_prefix, most_routes}
 use Rattle.snapshot.specs.Ranges.{any_of, none, route_tests, rises_route}
-use Rattle.snapshot.specs.RangesLaws.{none_at}
+use Rattle.snapshot.proofs.RangesLaws.{none_at}
 use Rattle.snapshot.specs.Format.{Prefix, Snapshot, Each, GoodId, GoodRoute, GoodPrefix, distance, Valid}
 use Rattle.snapshot.specs.Tables.{Tables, short, Held, routes_of, mesh, Room}
-use Rattle.snapshot.specs.ChecksLaws.{routers_few}
+use Rattle.snapshot.proofs.ChecksLaws.{routers_few}
 use Rattle.tables.specs.declared.Verdict.{Verdict}
 use Rattle.tables.specs.declared.Verdict.TheVariants.{Good, Refused}
 use Rattle.tables.specs.Judging as judging

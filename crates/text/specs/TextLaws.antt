@@ -6,10 +6,10 @@ use Rattle.std.proofs.lemmas.List.Edits.{sets}
 use Rattle.std.proofs.Math.Seq.{length-sets}
 use Rattle.std.proofs.lemmas.List.{set_comm}
 use Rattle.model.specs.Rows.{span}
-use Rattle.model.specs.NumberLaws.{le_or_lt}
-use Rattle.model.specs.LoopLaws.{rest, rest_next, rest_end}
+use Rattle.model.proofs.NumberLaws.{le_or_lt}
+use Rattle.model.proofs.LoopLaws.{rest, rest_next, rest_end}
 use Rattle.text.specs.Text.{digits, width_from, width, decimal, each, Puts}
-use Rattle.model.specs.ColumnLaws.{sets_append}
+use Rattle.model.proofs.ColumnLaws.{sets_append}
 
 module _ {A : Type 0} where
   -- an entry before those that are put may be put last

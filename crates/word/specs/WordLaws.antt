@@ -4,8 +4,8 @@ use Rattle.std.proofs.Common.{pow-suc, one-mul, zero-mul, mul_comm, mul_assoc, a
 use Rattle.std.specs.Int.Count.{ones}
 use Rattle.std.proofs.lemmas.Nat.{ones_cat}
 use Rattle.model.specs.Rows.{keep, span}
-use Rattle.model.specs.NumberLaws.{shifted}
-use Rattle.model.specs.LoopLaws.{Walk, walk, walk_on, walk_off, walk_end}
+use Rattle.model.proofs.NumberLaws.{shifted}
+use Rattle.model.proofs.LoopLaws.{Walk, walk, walk_on, walk_off, walk_end}
 use Rattle.word.specs.Word.{word}
 
 -- ---- the loop

@@ -5,13 +5,13 @@ use Rattle.std.proofs.lemmas.List.Edits.{sets}
 use Rattle.std.proofs.Math.Seq.{take-append_seam}
 use Rattle.std.proofs.Math.Facts.{T_not}
 use Rattle.refusal.specs.Numbers.{Said}
-use Rattle.refusal.specs.NumbersLaws.{value, same_refusal, gives_refuses}
-use Rattle.model.specs.ColumnLaws.{sets_front}
+use Rattle.refusal.proofs.NumbersLaws.{value, same_refusal, gives_refuses}
+use Rattle.model.proofs.ColumnLaws.{sets_front}
 use Rattle.snapshot.specs.declared.Counts.{Counts}
 use Rattle.snapshot.specs.Ranges.{any_of, none}
 use Rattle.snapshot.specs.Format.{Snapshot, encode, Valid}
 use Rattle.snapshot.specs.Tables.{Tables, short, Held}
-use Rattle.snapshot.specs.TablesLaws.{has_room}
+use Rattle.snapshot.proofs.TablesLaws.{has_room}
 use Rattle.tables.specs.Theorems.{held_one}
 use Rattle.writer.specs.declared.Write.{Write}
 use Rattle.writer.specs.declared.Write.TheVariants.{Written, Refused}

@@ -5,11 +5,11 @@ use Rattle.std.proofs.Math.Nat.{sub-zero}
 use Rattle.std.proofs.lemmas.List.Edits.{sets}
 use Rattle.std.proofs.Math.Seq.{length-sets}
 use Rattle.model.specs.Rows.{table, column, start}
-use Rattle.model.specs.LoopLaws.{rest, rest_next, rest_end}
+use Rattle.model.proofs.LoopLaws.{rest, rest_next, rest_end}
 use Rattle.snapshot.specs.Records.{router_form, distance_form, prefix_form, route_forms, written, written_in}
 use Rattle.snapshot.specs.Format.{Pair, row, rows, routers_bytes, routes_bytes, prefixes_bytes, route_fields}
 use Rattle.snapshot.specs.Tables.{Columns, Tables}
-use Rattle.snapshot.specs.PairsLaws.{due_row, due_equal, due_other, due_row_end, due_end}
+use Rattle.snapshot.proofs.PairsLaws.{due_row, due_equal, due_other, due_row_end, due_end}
 use Rattle.tables.specs.Judging.{route_at, routes_at, prefix_at, cell}
 use Rattle.records.specs.Putting.{Space, Puts}
 use Rattle.records.specs.PuttingLaws.{Left, left, left_next, left_room, left_as, left_done, left_end}

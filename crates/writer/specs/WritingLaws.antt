@@ -8,23 +8,23 @@ use Rattle.refusal.specs.declared.Refusal.TheVariants as refusal
 use Rattle.refusal.specs.Numbers.{refuses}
 use Rattle.model.specs.Rows.{span, table, column, start}
 use Rattle.model.specs.Decision.{Route}
-use Rattle.model.specs.RowLaws.{table_snoc}
+use Rattle.model.proofs.RowLaws.{table_snoc}
 use Rattle.snapshot.specs.declared.Counts.{Counts}
 use Rattle.snapshot.specs.Limits.{most_routers, most_routes}
 use Rattle.snapshot.specs.Ranges.{none}
 use Rattle.snapshot.specs.Records.{count_form, end_form, four_byte_route_form, four_byte, sum, size, written}
-use Rattle.snapshot.specs.RecordsLaws.{of_routes}
+use Rattle.snapshot.proofs.RecordsLaws.{of_routes}
 use Rattle.snapshot.specs.Format.{Snapshot, pairs, routers_bytes, distances_bytes, prefixes_bytes, routes_in, records, encode}
 use Rattle.snapshot.specs.Tables.{Tables, short, Room, counts_of, all_routes}
-use Rattle.snapshot.specs.ChecksLaws.{count_range}
-use Rattle.snapshot.specs.PairsLaws.{pairs_length}
-use Rattle.snapshot.specs.WrittenLaws.{route_size, routes_size, encode_size}
+use Rattle.snapshot.proofs.ChecksLaws.{count_range}
+use Rattle.snapshot.proofs.PairsLaws.{pairs_length}
+use Rattle.snapshot.proofs.WrittenLaws.{route_size, routes_size, encode_size}
 use Rattle.tables.specs.Judging.{route_at, prefix_at, snapshot_of, cell, InRange, Parts, Holding, numbered, Verdicts}
 use Rattle.tables.specs.declared.Verdict.{Verdict}
 use Rattle.tables.specs.declared.Verdict.TheVariants as verdict
 use Rattle.tables.specs.Theorems.{verdict_refused}
 use Rattle.tables.specs.PartsLaws.{all_table, parts_valid, parts_held, holding_parts}
-use Rattle.snapshot.specs.TablesLaws.{has_room}
+use Rattle.snapshot.proofs.TablesLaws.{has_room}
 use Rattle.records.specs.Putting.{Space, Puts}
 use Rattle.records.specs.PuttingLaws.{puts_append}
 use Rattle.writer.specs.Writing.{network_bytes, pair_count, size_by, routes_of, size_of, records_of, wrote, Writes, room, unheld, full, done}

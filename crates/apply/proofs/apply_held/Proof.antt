@@ -4,7 +4,7 @@ use lib.Dec.{T}
 use lib.Pow.{are_bytes}
 use Rattle.wire.specs.NumbersLaws.{slice_bytes}
 use Rattle.snapshot.specs.Tables.{Tables, tables, columns}
-use Rattle.snapshot.specs.TablesLaws.{has_room}
+use Rattle.snapshot.proofs.TablesLaws.{has_room}
 use Rattle.tables.specs.PartsLaws.{holding_parts}
 use Rattle.apply.specs.ApplyLaws.{applies_refused, applies_lent, applies_done}
 use Rattle.apply.proofs.apply_held.Statement.{statement}

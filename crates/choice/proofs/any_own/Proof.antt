@@ -4,7 +4,7 @@ use lib.ListN.{length}
 use lib.Dec.{eqb}
 use borrow.Author.Rules.{rules}
 use Rattle.model.specs.Rows.{column}
-use Rattle.model.specs.ListLaws.{Hunt, hunt, hunt_off, hunt_hit, hunt_end}
+use Rattle.model.proofs.ListLaws.{Hunt, hunt, hunt_off, hunt_hit, hunt_end}
 use Rattle.choice.proofs.any_own.Statement.{statement}
 use Rattle.choice.proofs.any_own.Tie as tie
 

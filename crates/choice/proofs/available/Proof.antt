@@ -8,8 +8,8 @@ use lib.Dec.{eqb}
 use borrow.Author.Rules.{rules}
 use Rattle.model.specs.Rows.{column, span}
 use Rattle.model.specs.Decision.{none}
-use Rattle.model.specs.RowLaws.{length_span}
-use Rattle.model.specs.ListLaws.{Pack, pack, pack_off, pack_on, pack_end, packed_front, span_at}
+use Rattle.model.proofs.RowLaws.{length_span}
+use Rattle.model.proofs.ListLaws.{Pack, pack, pack_off, pack_on, pack_end, packed_front, span_at}
 use Rattle.choice.proofs.available.Statement.{statement}
 use Rattle.choice.proofs.available.Tie as tie
 

@@ -7,12 +7,12 @@ use lib.ListN.{length, get_or, drop}
 use lib.Seq.{length_front}
 use borrow.Author.Rules.{rules}
 use Rattle.model.specs.Decision.{Mesh, none, preferred, unbeaten, own_if_any, nearest}
-use Rattle.model.specs.DecisionLaws.{picks_preferred, picks_unbeaten, picks_own}
+use Rattle.model.proofs.DecisionLaws.{picks_preferred, picks_unbeaten, picks_own}
 use Rattle.model.specs.Stability.{available}
-use Rattle.model.specs.StabilityLaws.{available_all}
+use Rattle.model.proofs.StabilityLaws.{available_all}
 use Rattle.model.specs.Lent.{Inside, Front}
 use Rattle.model.specs.Columns.{columns, lent_mesh}
-use Rattle.model.specs.ListLaws.{inside_part, inside_step, inside_span, inside_long, front_long, front_inside, front_of, front_next, packed_front}
+use Rattle.model.proofs.ListLaws.{inside_part, inside_step, inside_span, inside_long, front_long, front_inside, front_of, front_next, packed_front}
 use Rattle.choice.proofs.choose_in.Statement.{statement}
 use Rattle.choice.proofs.choose_in.Tie as tie
 

@@ -7,7 +7,7 @@ use lib.Dec.{eqb}
 use borrow.Author.Rules.{rules}
 use Rattle.model.specs.Rows.{column}
 use Rattle.model.specs.Columns.{distance_in}
-use Rattle.model.specs.ListLaws.{Keyed, keyed, keyed_next, keyed_least, inside_long}
+use Rattle.model.proofs.ListLaws.{Keyed, keyed, keyed_next, keyed_least, inside_long}
 use Rattle.choice.proofs.lowest_distance.Statement.{statement}
 use Rattle.choice.proofs.lowest_distance.Tie as tie
 

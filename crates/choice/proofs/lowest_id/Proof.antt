@@ -6,7 +6,7 @@ use lib.ListN.{length}
 use lib.Dec.{eqb}
 use borrow.Author.Rules.{rules}
 use Rattle.model.specs.Rows.{column}
-use Rattle.model.specs.ListLaws.{Keyed, keyed, keyed_next, keyed_least, inside_long}
+use Rattle.model.proofs.ListLaws.{Keyed, keyed, keyed_next, keyed_least, inside_long}
 use Rattle.choice.proofs.lowest_id.Statement.{statement}
 use Rattle.choice.proofs.lowest_id.Tie as tie
 

@@ -6,8 +6,8 @@ use lib.Dec.{eqb}
 use borrow.Author.Rules.{rules}
 use Rattle.model.specs.Rows.{column, keep_least}
 use Rattle.model.specs.Columns.{distance_in}
-use Rattle.model.specs.LeastLaws.{picks_least}
-use Rattle.model.specs.ListLaws.{inside_step, inside_long, front_long, front_inside, front_next, packed_front}
+use Rattle.model.proofs.LeastLaws.{picks_least}
+use Rattle.model.proofs.ListLaws.{inside_step, inside_long, front_long, front_inside, front_next, packed_front}
 use Rattle.choice.proofs.nearest.Statement.{statement}
 use Rattle.choice.proofs.nearest.Tie as tie
 

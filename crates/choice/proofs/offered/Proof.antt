@@ -3,7 +3,7 @@ use native.Mathlib.Omega.{arith}
 use borrow.Author.Rules.{rules}
 use Rattle.model.specs.Rows.{column}
 use Rattle.model.specs.Decision.{none}
-use Rattle.model.specs.ColumnLaws.{get_or_inside}
+use Rattle.model.proofs.ColumnLaws.{get_or_inside}
 use Rattle.choice.proofs.offered.Statement.{statement}
 use Rattle.choice.proofs.offered.Tie as tie
 

@@ -1,7 +1,7 @@
 -- `choice::own_if_any` meets its contract. By whether any row is the router's own. Assumes nothing.
 use mathlib.Core.Path.{sym, ◌∙◌}
 use borrow.Author.Rules.{rules}
-use Rattle.model.specs.ListLaws.{front_all, packed_front}
+use Rattle.model.proofs.ListLaws.{front_all, packed_front}
 use Rattle.choice.proofs.own_if_any.Statement.{statement}
 use Rattle.choice.proofs.own_if_any.Tie as tie
 

@@ -6,8 +6,8 @@ use lib.Seq.{sets}
 use borrow.Author.Rules.{rules}
 use Rattle.model.specs.Rows.{column, keep_least, keep_greatest}
 use Rattle.model.specs.Lent.{Packed}
-use Rattle.model.specs.LeastLaws.{picks_least, picks_greatest}
-use Rattle.model.specs.ListLaws.{inside_step, front_long, front_inside, packed_front, packed_next}
+use Rattle.model.proofs.LeastLaws.{picks_least, picks_greatest}
+use Rattle.model.proofs.ListLaws.{inside_step, front_long, front_inside, packed_front, packed_next}
 use Rattle.choice.proofs.preferred.Statement.{statement}
 use Rattle.choice.proofs.preferred.Tie as tie
 

@@ -7,7 +7,7 @@ use lib.ListN.{length}
 use borrow.Author.Rules.{rules}
 use Rattle.model.specs.Rows.{some, column}
 use Rattle.model.specs.Decision.{beats_by}
-use Rattle.model.specs.ListLaws.{Hunt, hunt, hunt_off, hunt_hit, hunt_end, Pack, pack, pack_off, pack_on, pack_room, pack_end}
+use Rattle.model.proofs.ListLaws.{Hunt, hunt, hunt_off, hunt_hit, hunt_end, Pack, pack, pack_off, pack_on, pack_room, pack_end}
 use Rattle.choice.proofs.unbeaten.Statement.{statement}
 use Rattle.choice.proofs.unbeaten.Lts.{else-scan-test, then-scan-test+then-beats}
 use Rattle.choice.proofs.unbeaten.Tie as tie

@@ -5,7 +5,7 @@ use mathlib.Core.Bool.{cond, not, ◌||◌}
 use lib.Dec.{eqb, leb}
 use lib.ListN.{length}
 use Rattle.refusal.specs.declared.Refusal.TheVariants.{Field, Order, Twin}
-use Rattle.model.specs.RowLaws.{table_length}
+use Rattle.model.proofs.RowLaws.{table_length}
 use Rattle.cursor.specs.declared.Finding.TheVariants.{Clear, Fault}
 use Rattle.cursor.specs.Steps.{id_at, router_place, ids_at}
 use Rattle.cursor.proofs.router_faults.Statement.{statement}

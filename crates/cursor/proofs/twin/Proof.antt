@@ -4,7 +4,7 @@ use native.Mathlib.Omega.{arith}
 use Prim.Native.Nat.{◌-◌}
 use mathlib.Core.Path.{ap}
 use lib.Dec.{eqb}
-use Rattle.model.specs.LoopLaws.{Looked, looked, looked_more, looked_on, looked_over}
+use Rattle.model.proofs.LoopLaws.{Looked, looked, looked_more, looked_on, looked_over}
 use Rattle.cursor.specs.Steps.{id_at, router_place}
 use Rattle.cursor.proofs.twin.Statement.{statement}
 use Rattle.cursor.proofs.twin.Tie as tie

@@ -7,8 +7,8 @@ use lib.ListN.{length}
 use lib.Dec.{ltb}
 use borrow.Author.Rules.{rules}
 use Rattle.model.specs.Rows.{span, column}
-use Rattle.model.specs.RowLaws.{length_span}
-use Rattle.model.specs.ListLaws.{Leads, leads, leads_off, leads_hit, leads_end, span_at}
+use Rattle.model.proofs.RowLaws.{length_span}
+use Rattle.model.proofs.ListLaws.{Leads, leads, leads_off, leads_hit, leads_end, span_at}
 use Rattle.group.proofs.first_spared.Statement.{statement}
 use Rattle.group.proofs.first_spared.Tie as tie
 

@@ -8,7 +8,7 @@ use lib.ListN.{length, get_or}
 use borrow.Author.Rules.{rules}
 use Rattle.model.specs.Rows.{column}
 use Rattle.model.specs.Listing.{group_by}
-use Rattle.model.specs.LoopLaws.{Walk, walk, walk_off, walk_hit, walk_end}
+use Rattle.model.proofs.LoopLaws.{Walk, walk, walk_off, walk_hit, walk_end}
 use Rattle.group.proofs.group_of.Statement.{statement}
 use Rattle.group.proofs.group_of.Tie as tie
 

@@ -5,8 +5,8 @@ use lib.ListN.{length}
 use borrow.Author.Rules.{rules}
 use Rattle.model.specs.Rows.{column}
 use Rattle.model.specs.Listing.{group_by}
-use Rattle.model.specs.ListingLaws.{group_le}
-use Rattle.model.specs.LoopLaws.{Stored, stored, stored_next, stored_end}
+use Rattle.model.proofs.ListingLaws.{group_le}
+use Rattle.model.proofs.LoopLaws.{Stored, stored, stored_next, stored_end}
 use Rattle.group.proofs.groups.Statement.{statement}
 use Rattle.group.proofs.groups.Tie as tie
 

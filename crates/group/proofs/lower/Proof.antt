@@ -5,8 +5,8 @@ use mathlib.Core.Path.{refl, sym}
 use lib.ListN.{length}
 use borrow.Author.Rules.{rules}
 use Rattle.model.specs.Rows.{span, column}
-use Rattle.model.specs.RowLaws.{length_span}
-use Rattle.model.specs.ListLaws.{Lowers, lowers, lowers_off, lowers_on, lowers_end, span_at}
+use Rattle.model.proofs.RowLaws.{length_span}
+use Rattle.model.proofs.ListLaws.{Lowers, lowers, lowers_off, lowers_on, lowers_end, span_at}
 use Rattle.group.proofs.lower.Statement.{statement}
 use Rattle.group.proofs.lower.Tie as tie
 

@@ -5,12 +5,12 @@ use mathlib.Core.List.{List}
 use lib.ListN.{length}
 use borrow.Author.Rules.{rules}
 use Rattle.model.specs.Rows.{table, column}
-use Rattle.model.specs.RowLaws.{table_at}
+use Rattle.model.proofs.RowLaws.{table_at}
 use Rattle.model.specs.Decision.{Mesh}
 use Rattle.model.specs.Stability.{Sound}
 use Rattle.model.specs.Contest.{Calm, contest, earliest, latest, at_place, holding}
-use Rattle.model.specs.ContestLaws.{Fair, earliest_calm, latest_calm}
-use Rattle.model.specs.EarlyLateLaws.{stands_chosen, fair}
+use Rattle.model.proofs.ContestLaws.{Fair, earliest_calm, latest_calm}
+use Rattle.model.proofs.EarlyLateLaws.{stands_chosen, fair}
 use Rattle.model.specs.Columns.{Columns, columns, routes_mesh, lent_mesh, choice_of, Rests}
 use Rattle.hold.proofs.forecast_rows_in.Statement.{statement}
 use Rattle.hold.proofs.forecast_rows_in.Tie as tie

@@ -5,7 +5,7 @@ use mathlib.Core.Path.{sym}
 use lib.ListN.{length}
 use borrow.Author.Rules.{rules}
 use Rattle.model.specs.Columns.{columns, choice_of}
-use Rattle.model.specs.LoopLaws.{Stored, stored, stored_next, stored_end}
+use Rattle.model.proofs.LoopLaws.{Stored, stored, stored_next, stored_end}
 use Rattle.hold.proofs.hold.Statement.{statement}
 use Rattle.hold.proofs.hold.Tie as tie
 

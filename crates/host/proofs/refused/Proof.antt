@@ -3,7 +3,7 @@ use borrow.Author.Rules.{rules}
 use native.Mathlib.Omega.{arith}
 use mathlib.Core.Path.{ap}
 use Prim.Native.Nat.{ℕ, ◌+◌}
-use Rattle.refusal.specs.NumbersLaws.{number_range}
+use Rattle.refusal.proofs.NumbersLaws.{number_range}
 use Rattle.host.proofs.refused.Statement.{statement}
 use Rattle.host.proofs.refused.Tie as tie
 

@@ -3,7 +3,7 @@ use Prim.Native.Nat.{ℕ, ◌+◌}
 use native.Mathlib.Omega.{arith}
 use mathlib.Core.Path.{sym, ap, ◌∙◌}
 use borrow.Author.Rules.{rules}
-use Rattle.refusal.specs.NumbersLaws.{number_range}
+use Rattle.refusal.proofs.NumbersLaws.{number_range}
 use Rattle.revise.specs.declared.Revised.{Revised}
 use Rattle.revise.specs.Revising.{said}
 use Rattle.host.proofs.revised.Statement.{statement}

@@ -3,7 +3,7 @@ use Prim.Native.Nat.{ℕ, ◌+◌}
 use native.Mathlib.Omega.{arith}
 use mathlib.Core.Path.{sym, ap, ◌∙◌}
 use borrow.Author.Rules.{rules}
-use Rattle.refusal.specs.NumbersLaws.{number_range}
+use Rattle.refusal.proofs.NumbersLaws.{number_range}
 use Rattle.outlook.specs.declared.Outlook.{Outlook}
 use Rattle.outlook.specs.Outlook.{said}
 use Rattle.measure.specs.Measure.{outlook_number}

@@ -3,7 +3,7 @@ use native.Mathlib.Omega.{arith}
 use mathlib.Core.Path.{◌≡◌, ap, sym, ◌∙◌}
 use borrow.Author.Rules.{rules}
 use Rattle.model.specs.Rows.{start}
-use Rattle.model.specs.RowLaws.{start_first, start_next, start_within}
+use Rattle.model.proofs.RowLaws.{start_first, start_next, start_within}
 use Rattle.outlook.proofs.start_of.Statement.{statement}
 use Rattle.outlook.proofs.start_of.Tie as tie
 

@@ -1,7 +1,7 @@
 use Rattle.std.proofs.Common.{ℕ, ◌+◌, ◌-◌, ◌≡◌, refl, arith, sym, ap₂}
 use Rattle.model.specs.Rows.{column}
 use Rattle.model.specs.Columns.{columns, lent_mesh}
-use Rattle.model.specs.RowLaws.{start_first, start_next}
+use Rattle.model.proofs.RowLaws.{start_first, start_next}
 use Rattle.outlook.specs.Outlook.{cut}
 use Rattle.text.specs.TextLaws.{puts_as, lined, lined_next, lined_room}
 use Rattle.page.specs.Lent.{decided_text}

@@ -1,7 +1,7 @@
 use Rattle.std.proofs.Common.{ℕ, ◌≡◌, ◌<◌, length, arith, ap₂}
 use Rattle.model.specs.Rows.{column}
 use Rattle.model.specs.Decision.{none}
-use Rattle.model.specs.ColumnLaws.{get_or_inside}
+use Rattle.model.proofs.ColumnLaws.{get_or_inside}
 use Rattle.lines.specs.Lines.{router_line}
 use Rattle.text.specs.TextLaws.{puts_as, lined_next}
 use Rattle.page.proofs.put_routers.Goals as goal

@@ -5,7 +5,7 @@ use Prim.Native.Nat.{◌-◌, ◌≤◌}
 use mathlib.Core.Path.{◌≡◌, refl, sym, ◌∙◌}
 use lib.ListN.{length}
 use Rattle.model.specs.Rows.{start}
-use Rattle.model.specs.RowLaws.{start_first, start_next, start_within}
+use Rattle.model.proofs.RowLaws.{start_first, start_next, start_within}
 use Rattle.passes.specs.Passes.{Owned}
 use Rattle.passes.specs.PassesLaws.{owned, owned_next, owned_end}
 use Rattle.passes.proofs.mark_owners.Statement.{statement}

@@ -4,7 +4,7 @@ use native.Mathlib.Omega.{arith}
 use Prim.Native.Nat.{◌-◌, ◌≤◌}
 use mathlib.Core.Path.{refl, sym}
 use lib.ListN.{length}
-use Rattle.model.specs.LoopLaws.{Stored, stored, stored_next}
+use Rattle.model.proofs.LoopLaws.{Stored, stored, stored_next}
 use Rattle.policy.specs.Rewriting.{usual}
 use Rattle.passes.specs.Passes.{entry}
 use Rattle.passes.specs.PassesLaws.{entry_new, stored_part}

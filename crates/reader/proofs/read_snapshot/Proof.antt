@@ -6,8 +6,8 @@ use lib.Dec.{T}
 use lib.Pow.{are_bytes}
 use Rattle.wire.specs.NumbersLaws.{slice_bytes}
 use Rattle.snapshot.specs.Ranges.{any_of}
-use Rattle.snapshot.specs.RangesLaws.{none_any}
-use Rattle.snapshot.specs.TablesLaws.{has_room}
+use Rattle.snapshot.proofs.RangesLaws.{none_any}
+use Rattle.snapshot.proofs.TablesLaws.{has_room}
 use Rattle.snapshot.specs.Tables.{Tables, columns, tables, short}
 use Rattle.scan.specs.ScanLaws.{said_is}
 use Rattle.reader.specs.ReadLaws.{no_room, not_sound, sound, spanned}

@@ -4,7 +4,7 @@ use mathlib.Core.Path.{sym}
 use lib.ListN.{get_or-eq_default}
 use borrow.Author.Rules.{rules}
 use Rattle.model.specs.Decision.{none}
-use Rattle.model.specs.ColumnLaws.{get_or_inside}
+use Rattle.model.proofs.ColumnLaws.{get_or_inside}
 use Rattle.rows.proofs.first.Statement.{statement}
 use Rattle.rows.proofs.first.Tie as tie
 

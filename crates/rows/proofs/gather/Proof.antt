@@ -3,7 +3,7 @@ use Prim.Native.Nat.{◌-◌}
 use lib.ListN.{length}
 use borrow.Author.Rules.{rules}
 use Rattle.model.specs.Rows.{column}
-use Rattle.model.specs.LoopLaws.{Stored, stored, stored_next, stored_end}
+use Rattle.model.proofs.LoopLaws.{Stored, stored, stored_next, stored_end}
 use Rattle.rows.proofs.gather.Statement.{statement}
 use Rattle.rows.proofs.gather.Tie as tie
 

@@ -3,7 +3,7 @@ use Prim.Native.Nat.{◌-◌}
 use lib.ListN.{length}
 use borrow.Author.Rules.{rules}
 use Rattle.model.specs.Rows.{column}
-use Rattle.model.specs.ListLaws.{Higher, higher, higher_off, higher_on, higher_end}
+use Rattle.model.proofs.ListLaws.{Higher, higher, higher_off, higher_on, higher_end}
 use Rattle.rows.proofs.greatest.Statement.{statement}
 use Rattle.rows.proofs.greatest.Tie as tie
 

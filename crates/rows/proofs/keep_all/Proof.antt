@@ -2,8 +2,8 @@
 use Prim.Native.Nat.{◌-◌}
 use lib.ListN.{length}
 use borrow.Author.Rules.{rules}
-use Rattle.model.specs.LoopLaws.{Stored, stored, stored_next}
-use Rattle.model.specs.ListLaws.{all_listed}
+use Rattle.model.proofs.LoopLaws.{Stored, stored, stored_next}
+use Rattle.model.proofs.ListLaws.{all_listed}
 use Rattle.rows.proofs.keep_all.Statement.{statement}
 use Rattle.rows.proofs.keep_all.Tie as tie
 

@@ -4,7 +4,7 @@ use lib.ListN.{length}
 use lib.Dec.{eqb}
 use borrow.Author.Rules.{rules}
 use Rattle.model.specs.Rows.{column}
-use Rattle.model.specs.ListLaws.{Pack, pack_end, squeeze, squeeze_here, squeeze_off, squeeze_on}
+use Rattle.model.proofs.ListLaws.{Pack, pack_end, squeeze, squeeze_here, squeeze_off, squeeze_on}
 use Rattle.rows.proofs.keep_equal.Statement.{statement}
 use Rattle.rows.proofs.keep_equal.Tie as tie
 

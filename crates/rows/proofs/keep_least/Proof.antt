@@ -6,8 +6,8 @@ use lib.Dec.{eqb}
 use borrow.Author.Rules.{rules}
 use Rattle.model.specs.Rows.{keep, column}
 use Rattle.model.specs.Columns.{past_keys}
-use Rattle.model.specs.LeastLaws.{keep_least_lem}
-use Rattle.model.specs.ListLaws.{packed_is}
+use Rattle.model.proofs.LeastLaws.{keep_least_lem}
+use Rattle.model.proofs.ListLaws.{packed_is}
 use Rattle.rows.proofs.keep_least.Statement.{statement}
 use Rattle.rows.proofs.keep_least.Tie as tie
 

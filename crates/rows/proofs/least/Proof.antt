@@ -4,7 +4,7 @@ use lib.ListN.{length}
 use borrow.Author.Rules.{rules}
 use Rattle.model.specs.Rows.{column}
 use Rattle.model.specs.Columns.{past_keys}
-use Rattle.model.specs.ListLaws.{Lower, lower, lower_off, lower_on, lower_end}
+use Rattle.model.proofs.ListLaws.{Lower, lower, lower_off, lower_on, lower_end}
 use Rattle.rows.proofs.least.Statement.{statement}
 use Rattle.rows.proofs.least.Tie as tie
 

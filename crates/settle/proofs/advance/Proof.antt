@@ -8,8 +8,8 @@ use lib.ListN.{length}
 use borrow.Author.Rules.{rules}
 use Rattle.model.specs.Rows.{column}
 use Rattle.model.specs.Listing.{own_places, first_place}
-use Rattle.model.specs.LoopLaws.{Moved, moved, moved_none, moved_one, moved_end}
-use Rattle.model.specs.RoundLaws.{Turn, turn, turn_next, turn_room, slice_long, slice_within, slice_first}
+use Rattle.model.proofs.LoopLaws.{Moved, moved, moved_none, moved_one, moved_end}
+use Rattle.model.proofs.RoundLaws.{Turn, turn, turn_next, turn_room, slice_long, slice_within, slice_first}
 use Rattle.settle.proofs.advance.Statement.{statement}
 use Rattle.settle.proofs.advance.Tie as tie
 

@@ -5,7 +5,7 @@ use mathlib.Core.Path.{sym, ◌∙◌}
 use lib.ListN.{length}
 use borrow.Author.Rules.{rules}
 use Rattle.model.specs.Rows.{column}
-use Rattle.model.specs.RoundLaws.{Passing, passing, passing_next, passing_end, turn_room, slice_long, slice_within}
+use Rattle.model.proofs.RoundLaws.{Passing, passing, passing_next, passing_end, turn_room, slice_long, slice_within}
 use Rattle.settle.proofs.pass.Statement.{statement}
 use Rattle.settle.proofs.pass.Tie as tie
 

@@ -10,7 +10,7 @@ use Rattle.model.specs.Rows.{keep, column}
 use Rattle.model.specs.Contest.{least_or}
 use Rattle.model.specs.Columns.{most_rows, past_keys}
 use Rattle.model.specs.Listing.{own_places, passed_rows}
-use Rattle.model.specs.RoundLaws.{round_low}
+use Rattle.model.proofs.RoundLaws.{round_low}
 use Rattle.settle.proofs.round.Statement.{statement}
 use Rattle.settle.proofs.round.Tie as tie
 

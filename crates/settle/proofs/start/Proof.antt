@@ -3,7 +3,7 @@ use Prim.Native.Nat.{◌-◌}
 use lib.ListN.{length}
 use borrow.Author.Rules.{rules}
 use Rattle.model.specs.Listing.{start_by}
-use Rattle.model.specs.LoopLaws.{Stored, stored, stored_next, stored_end}
+use Rattle.model.proofs.LoopLaws.{Stored, stored, stored_next, stored_end}
 use Rattle.settle.proofs.start.Statement.{statement}
 use Rattle.settle.proofs.start.Tie as tie
 

@@ -4,7 +4,7 @@ use borrow.Author.Rules.{rules}
 use borrow.Author.Tests.{lt-ltb, le-ltb}
 use native.Mathlib.Omega.{arith}
 use lib.Pow.{pow_pos}
-use Rattle.model.specs.NumberLaws.{shifted}
+use Rattle.model.proofs.NumberLaws.{shifted}
 use Rattle.snapshot.proofs.prefix_bad.Statement.{statement}
 use Rattle.snapshot.proofs.prefix_bad.Tie as tie
 

@@ -11,8 +11,8 @@ use Rattle.model.specs.Rows.{column}
 use Rattle.model.specs.Lent.{Front}
 use Rattle.model.specs.Columns.{Columns, columns, Fits, most_routers, most_rows, past_keys}
 use Rattle.model.specs.Listing.{contenders_in, counts_in, gathered, groups_in, rest_in, Ready}
-use Rattle.model.specs.ListLaws.{front_is, front_wider, front_long, front_inside, packed_front}
-use Rattle.model.specs.ListingLaws.{ready, contenders_few, contenders_inside, rest_early, rest_late}
+use Rattle.model.proofs.ListLaws.{front_is, front_wider, front_long, front_inside, packed_front}
+use Rattle.model.proofs.ListingLaws.{ready, contenders_few, contenders_inside, rest_early, rest_late}
 use Rattle.stand.proofs.own_rows.Statement.{statement}
 use Rattle.stand.proofs.own_rows.Tie as tie
 

@@ -7,9 +7,9 @@ use mathlib.Core.List.{List}
 use lib.ListN.{length}
 use borrow.Author.Rules.{rules}
 use Rattle.model.specs.Rows.{table, column}
-use Rattle.model.specs.RowLaws.{table_length}
+use Rattle.model.proofs.RowLaws.{table_length}
 use Rattle.model.specs.Listing.{group_by, counts_in, gathered, groups_in, stands_at, settled_by, rest_in, Ready}
-use Rattle.model.specs.ListLaws.{inside_long}
+use Rattle.model.proofs.ListLaws.{inside_long}
 use Rattle.stand.proofs.rest_rows.Statement.{statement}
 use Rattle.stand.proofs.rest_rows.Tie as tie
 

@@ -3,7 +3,7 @@ use mathlib.Core.Path.{sym}
 use lib.ListN.{get_or-eq_default}
 use borrow.Author.Rules.{rules}
 use Rattle.model.specs.Decision.{none}
-use Rattle.model.specs.ColumnLaws.{get_or_inside}
+use Rattle.model.proofs.ColumnLaws.{get_or_inside}
 use Rattle.stand.proofs.row_at.Statement.{statement}
 use Rattle.stand.proofs.row_at.Tie as tie
 

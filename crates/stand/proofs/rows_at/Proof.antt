@@ -8,8 +8,8 @@ use borrow.Author.Rules.{rules}
 use Rattle.model.specs.Rows.{column}
 use Rattle.model.specs.Decision.{none}
 use Rattle.model.specs.Listing.{stands_at}
-use Rattle.model.specs.LoopLaws.{Stored, stored, stored_next, stored_end}
-use Rattle.model.specs.RoundLaws.{Turn, turn, turn_next, turn_room, turn_own}
+use Rattle.model.proofs.LoopLaws.{Stored, stored, stored_next, stored_end}
+use Rattle.model.proofs.RoundLaws.{Turn, turn, turn_next, turn_room, turn_own}
 use Rattle.stand.proofs.rows_at.Statement.{statement}
 use Rattle.stand.proofs.rows_at.Tie as tie
 

@@ -3,10 +3,10 @@ use mathlib.Core.Path.{sym, ◌∙◌, subst}
 use lib.Dec.{T}
 use borrow.Author.Rules.{rules}
 use Rattle.snapshot.specs.Ranges.{none}
-use Rattle.snapshot.specs.RangesLaws.{none_any}
+use Rattle.snapshot.proofs.RangesLaws.{none_any}
 use Rattle.snapshot.specs.Tables.{Tables, tables, columns, short}
 use Rattle.tables.specs.Judging.{room, unheld, held}
-use Rattle.snapshot.specs.TablesLaws.{has_room}
+use Rattle.snapshot.proofs.TablesLaws.{has_room}
 use Rattle.tables.proofs.examine.Statement.{statement}
 use Rattle.tables.proofs.examine.Tie as tie
 

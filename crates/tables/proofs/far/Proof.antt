@@ -4,7 +4,7 @@ use lib.Dec.{ltb}
 use borrow.Author.Rules.{rules}
 use Rattle.model.specs.Rows.{column}
 use Rattle.snapshot.specs.Limits.{farthest}
-use Rattle.model.specs.LoopLaws.{Looked, looked, looked_next, looked_end}
+use Rattle.model.proofs.LoopLaws.{Looked, looked, looked_next, looked_end}
 use Rattle.tables.proofs.far.Statement.{statement}
 use Rattle.tables.proofs.far.Tie as tie
 

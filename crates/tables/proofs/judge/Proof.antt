@@ -2,7 +2,7 @@
 use native.Mathlib.Omega.{arith}
 use borrow.Author.Rules.{rules}
 use Rattle.tables.specs.PartsLaws.{judged_no, judged_last}
-use Rattle.snapshot.specs.TablesLaws.{room_alone}
+use Rattle.snapshot.proofs.TablesLaws.{room_alone}
 use Rattle.tables.specs.JudgeLaws.{few_routers}
 use Rattle.tables.proofs.judge.Statement.{statement}
 use Rattle.tables.proofs.judge.Tie as tie

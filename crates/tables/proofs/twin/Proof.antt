@@ -4,7 +4,7 @@ use mathlib.Core.Path.{refl}
 use lib.Dec.{eqb}
 use borrow.Author.Rules.{rules}
 use Rattle.model.specs.Rows.{column}
-use Rattle.model.specs.LoopLaws.{Looked, looked, looked_next, looked_end}
+use Rattle.model.proofs.LoopLaws.{Looked, looked, looked_next, looked_end}
 use Rattle.tables.proofs.twin.Statement.{statement}
 use Rattle.tables.proofs.twin.Tie as tie
 

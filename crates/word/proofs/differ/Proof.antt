@@ -1,7 +1,7 @@
 -- Both rows are inside, so what stands for the others does not matter.
 use borrow.Author.Rules.{rules}
 use Rattle.model.specs.Decision.{none}
-use Rattle.model.specs.ColumnLaws.{get_or_inside}
+use Rattle.model.proofs.ColumnLaws.{get_or_inside}
 use Rattle.word.proofs.differ.Statement.{statement}
 use Rattle.word.proofs.differ.Tie as tie
 

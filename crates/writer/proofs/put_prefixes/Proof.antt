@@ -7,7 +7,7 @@ use Rattle.model.specs.Rows.{table, start}
 use Rattle.snapshot.specs.Format.{prefixes_bytes}
 use Rattle.snapshot.specs.Tables.{Tables, columns, prefix_tables}
 use Rattle.tables.specs.Judging.{prefix_at}
-use Rattle.model.specs.RowLaws.{start_first, start_next, start_within}
+use Rattle.model.proofs.RowLaws.{start_first, start_next, start_within}
 use Rattle.writer.specs.SectionsLaws.{Section, section, section_room, section_next, section_long, section_end, prefixes_from, prefixes_first, prefixes_next, prefixes_last}
 use Rattle.writer.proofs.put_prefixes.Statement.{statement}
 use Rattle.writer.proofs.put_prefixes.Tie as tie

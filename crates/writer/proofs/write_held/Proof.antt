@@ -10,7 +10,7 @@ use Rattle.snapshot.specs.Tables.{Tables, tables, columns, Room}
 use Rattle.tables.specs.Judging.{prefix_at, Parts}
 use Rattle.tables.specs.PartsLaws.{holding_parts}
 use Rattle.tables.specs.JudgeLaws.{few_routers}
-use Rattle.snapshot.specs.TablesLaws.{has_room, room_alone}
+use Rattle.snapshot.proofs.TablesLaws.{has_room, room_alone}
 use Rattle.records.specs.Putting.{Space}
 use Rattle.records.specs.PuttingLaws.{space_first, space_then}
 use Rattle.writer.specs.Writing.{network_bytes, records_of}

@@ -1,0 +1,9 @@
+pub mod AcceptsLaws
+pub mod ReturnsLaws
+pub mod RewritingLaws
+pub mod PassingLaws
+pub mod PlaceLaws
+pub mod LongestLaws
+pub mod BorderLaws
+pub mod Examples
+pub mod Theorems

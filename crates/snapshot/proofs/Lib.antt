@@ -1,0 +1,15 @@
+pub mod RangesLaws
+pub mod RisesLaws
+pub mod RecordsLaws
+pub mod ChecksLaws
+pub mod PairsLaws
+pub mod SectionsLaws
+pub mod AcceptsLaws
+pub mod ReturnsLaws
+pub mod WrittenLaws
+pub mod BorderLaws
+pub mod PlaceLaws
+pub mod Examples
+pub mod LongestLaws
+pub mod Theorems
+pub mod TablesLaws
