@@ -1,4 +1,4 @@
--- The order theory of a fair contest. `refine` is monotone, its fixed points are the Calm states, and all of them lie between two
+-- The order theory of a fair contest. `refine` is monotone, its fixed points are the calm states, and all of them lie between two
 -- of them, `earliest` and `latest`. The theorems stand at the end of the file.
 use Rattle.std.specs.Prelude.{ℕ, zero, suc, ◌-◌, ◌<◌, ◌≤◌, ◌≡◌, refl, ◌⊎◌, Bool, ◌&&◌, not, List, eqb, leb, T, length, get_or}
 use Rattle.std.proofs.Common.{sym, ap, ◌∙◌, subst, inl, inr, ⊎_elim, eq-or-lt_of_le, arith, T_not, eqb→eq, leb→le, le→leb}
@@ -190,13 +190,13 @@ module _ (C : Contest) where
   below zero x y e h = h
   below (suc n) x y e h = below n (refine C x) y e (subst (λ (z : List ℕ). z ⊑ refine C x) (sym e) (refine_mono y x h))
 
-  -- ---- Calm states
+  -- ---- calm states
 
   pub calm_at : (x : List ℕ) → Calm C x → (r : ℕ) → r < C.owners → get_or x r 0 ≡ first_free C (held_items C x) r
   calm_at x e r h = ap (λ (z : List ℕ). get_or z r 0) e ∙ table_at (first_free C (held_items C x)) 0 C.owners r h
 
 module _ (C : Contest) (F : Fair C) where
-  -- ---- in a state that rises, and in a Calm one, what a passed item beats a held item beats too
+  -- ---- in a state that rises, and in a calm one, what a passed item beats a held item beats too
 
   -- a passed item is held, or beaten
   rising_case : (x : List ℕ) → x ⊑ refine C x → (p : ℕ) → In p (passed C x) → In p (held_items C x) ⊎ Beaten C (passed C x) p

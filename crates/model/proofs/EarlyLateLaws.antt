@@ -1,5 +1,5 @@
--- Stable assignments and Calm states of the contest are the same thing: the standings of a stable assignment are Calm, and what a
--- Calm state says to hold is stable, with the state as its standings.
+-- Stable assignments and calm states of the contest are the same thing: the standings of a stable assignment are calm, and what a
+-- calm state says to hold is stable, with the state as its standings.
 use Rattle.std.specs.Prelude.{ℕ, ◌≤◌, ◌<◌, ◌≡◌, ◌⊎◌, Bool, ◌&&◌, not, List, [], T, eqb, ltb, length, get_or}
 use Rattle.std.proofs.Common.{le_of_eq, arith, sym, ap, subst, ◌∙◌, inl, inr, eqb→eq, lt→ltb, eqb-true}
 use Rattle.std.proofs.Math.Path.{fun_ext}
@@ -154,7 +154,7 @@ module _ (M : Mesh) (x : List ℕ) where
   held_place {q} m = sym (place_standing M (M.router q) (held_contends m)) ∙ (held_is (contest M) x q m).1
 
 module _ (M : Mesh) (sound : Sound M) where
-  -- ---- the standings of a stable assignment are Calm
+  -- ---- the standings of a stable assignment are calm
 
   pub stable_announced : (held : List ℕ) → Stable M held → Announced M held (held_items (contest M) (standings M held))
   stable_announced held st = record {
@@ -178,7 +178,7 @@ module _ (M : Mesh) (sound : Sound M) where
   stable_calm held st = table_same (λ r. standing M r (get_or held r none)) (first_free (contest M) (held_items (contest M) (standings M held))) M.routers
       (λ r lt. ap (standing M r) (st.chosen r lt) ∙ chosen_standing M sound held (held_items (contest M) (standings M held)) (stable_announced held st) r)
 
-  -- ---- what a Calm state says to hold is stable
+  -- ---- what a calm state says to hold is stable
 
   module _ (x : List ℕ) where
     abbrev pub placed : ℕ → List ℕ
@@ -300,9 +300,9 @@ module _ (M : Mesh) (sound : Sound M) where
               contends = subst (λ (z : ℕ). In z (contenders M o)) (sym is)
                   (free_contender M (held_items (contest M) x) o (chosen_free M sound placed_rows (held_items (contest M) x) calm_announced o (subst (λ (z : ℕ). In z (all M)) is m) (ap M.router (sym is))))
 
-  -- ---- between two Calm states
+  -- ---- between two calm states
 
-  -- With two Calm states that every Calm state lies between, every stable assignment lies between what the two say to hold.
+  -- With two calm states that every calm state lies between, every stable assignment lies between what the two say to hold.
   pub between : (low high : List ℕ) → Calm (contest M) low → Calm (contest M) high
       → ((x : List ℕ) → Calm (contest M) x → (r : ℕ) → get_or low r 0 ≤ get_or x r 0) → ((x : List ℕ) → Calm (contest M) x → (r : ℕ) → get_or x r 0 ≤ get_or high r 0)
       → Between M (holding M low) (holding M high)
