@@ -12,7 +12,7 @@ const PAIRS: u64 = 120;
 
 /// The program: that of BARRIEROSE_APPLY_POLICY, by default the proved one.
 fn program() -> Command {
-    let named = std::env::var("BARRIEROSE_APPLY_POLICY").unwrap_or("target/bin/apply_policy".to_string());
+    let named = std::env::var("BARRIEROSE_APPLY_POLICY").unwrap_or("crates/apply_policy/out/apply_policy".to_string());
     Command::new(Path::new(concat!(env!("CARGO_MANIFEST_DIR"), "/../..")).join(named))
 }
 

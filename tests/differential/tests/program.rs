@@ -16,7 +16,7 @@ fn repository() -> PathBuf {
 
 /// The program with standard input and error connected: that of BARRIEROSE_FORECAST, by default the proved one.
 fn program(out: Stdio) -> Child {
-    let named = std::env::var("BARRIEROSE_FORECAST").unwrap_or("target/bin/forecast".to_string());
+    let named = std::env::var("BARRIEROSE_FORECAST").unwrap_or("crates/forecast/out/forecast".to_string());
     let path = repository().join(named);
     let mut command = Command::new(&path);
     command.stdin(Stdio::piped()).stdout(out).stderr(Stdio::piped());
