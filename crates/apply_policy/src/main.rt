@@ -8,7 +8,7 @@ use refusal::Refusal;
 use revise::Revised;
 use std::env::{Env, FillError};
 use std::io::Read;
-use std::{fs, io, str};
+use std::{fs, str};
 
 // What is read of each file at most: one byte more than the longest snapshot and the longest policy, since so many decide the answer.
 const SNAPSHOT: usize = snapshot::LONGEST + 1;
@@ -37,49 +37,19 @@ fn say_refused(rt: &HostRuntime, what: &[u8], r: Refusal, place: usize)
     let _ = rt.stderr().write_all(&line[..end]);
 }
 
-// Says on standard error why a file cannot be read: its name and the system's words, without the number of the error.
-fn say_unreadable(rt: &HostRuntime, name: &str, error: &io::Error) {
-    let Ok(said) = format!(in rt.alloc(); "{error}") else {
-        let _ = eprintln!(rt; "{name}: {error}");
-        return;
-    };
-    match said.as_str().split_once(" (os error ") {
-        Some((words, _)) => {
-            let _ = eprintln!(rt; "{name}: {words}");
-        }
-        None => {
-            let _ = eprintln!(rt; "{name}: {said}");
-        }
-    }
-}
-
-// Reads until the buffer is full, the input ends or a read fails, and answers how many bytes were read.
-fn read_full(input: &mut impl Read, buf: &mut [u8]) -> usize
-    ensures { result ≤ length buf.new }
-{
-    let mut done = 0;
-    while done < buf.len() {
-        match input.read(&mut buf[done..]) {
-            Ok(n) if 0 < n => done += n,
-            _ => break,
-        }
-    }
-    done
-}
-
 // Reads a file, as much of it as the buffer holds. A last read tells its end from a read that failed.
 fn read_file(rt: &HostRuntime, name: &str, buf: &mut [u8]) -> Got {
     let mut file = match fs::open(rt, name) {
         Ok(file) => file,
         Err(e) => {
-            say_unreadable(rt, name, &e);
+            files::say_unreadable(rt, name, &e);
             return Got::Nothing;
         }
     };
-    let n = read_full(&mut file, buf);
+    let n = files::read_full(&mut file, buf);
     let mut more = [0u8; 1];
     if let Err(e) = file.read(&mut more) {
-        say_unreadable(rt, name, &e);
+        files::say_unreadable(rt, name, &e);
         return Got::Nothing;
     }
     Got::Bytes(n)

@@ -18,7 +18,7 @@ ghost use Rattle.cases.specs.Cases.{Kept, finding, found, accepted_line, finding
 use refusal::Refusal;
 use scan::Read;
 use snapshot::Counts;
-use std::{fs, io};
+use std::fs;
 use text::{put_decimal, put_text};
 use writer::Write;
 
@@ -196,36 +196,6 @@ fn put_line(out: &mut [u8], name: &[u8], input: &[u8], peer: &mut [u32]) -> usiz
     }
 }
 
-// Says on standard error why a file cannot be read: its name and the system's words, without the number of the error.
-fn say_unreadable(rt: &HostRuntime, name: &str, error: &io::Error) {
-    let Ok(said) = format!(in rt.alloc(); "{error}") else {
-        let _ = eprintln!(rt; "{name}: {error}");
-        return;
-    };
-    match said.as_str().split_once(" (os error ") {
-        Some((words, _)) => {
-            let _ = eprintln!(rt; "{name}: {words}");
-        }
-        None => {
-            let _ = eprintln!(rt; "{name}: {said}");
-        }
-    }
-}
-
-// Reads until the buffer is full, the input ends or a read fails, and answers how many bytes were read.
-fn read_full(input: &mut impl io::Read, buf: &mut [u8]) -> usize
-    ensures { result ≤ length buf.new }
-{
-    let mut done = 0;
-    while done < buf.len() {
-        match input.read(&mut buf[done..]) {
-            Ok(n) if 0 < n => done += n,
-            _ => break,
-        }
-    }
-    done
-}
-
 // Reads a file, with room for so many peers, and prints its line.
 fn run(rt: &HostRuntime, name: &str, room: usize)
     requires { (length name.now + 1 + widest ≤ widest_line) × (room ≤ most_routes) }
@@ -233,12 +203,12 @@ fn run(rt: &HostRuntime, name: &str, room: usize)
     let mut file = match fs::open(rt, name) {
         Ok(file) => file,
         Err(e) => {
-            say_unreadable(rt, name, &e);
+            files::say_unreadable(rt, name, &e);
             return;
         }
     };
     let mut input = [0u8; INPUT];
-    let n = read_full(&mut file, &mut input);
+    let n = files::read_full(&mut file, &mut input);
     let mut peer = [0u32; snapshot::MOST_ROUTES as usize];
     let mut out = [0u8; LINE];
     let end = put_line(&mut out, name.as_bytes(), &input[..n], &mut peer[..room]);

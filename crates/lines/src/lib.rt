@@ -1,8 +1,8 @@
 // The lines of the printed forecast, put into a lent buffer. Each call answers the place after what it put.
 #![tactic(auto)]
 
-ghost use Rattle.model.specs.Rows.{column};
 ghost use Rattle.std.specs.Prelude.{◌≡◌, ◌⊎◌, ◌++◌, ◌+◌, ◌≤◌, ◌<◌, length};
+ghost use Rattle.model.specs.Rows.{column};
 ghost use Rattle.model.specs.Decision.{none};
 ghost use Rattle.text.specs.Text.{decimal, Puts};
 ghost use Rattle.lines.specs.Lines.{widest, heading_line, refusal_line, refused_line, dotted, state, prefix_line, entry, or_entry, router_line};
