@@ -40,14 +40,13 @@ cargo_tests() {
     fi
 }
 
-# added COMMAND ..: runs a command whose last line is 'N passed, M failed' and adds both to the sum. What it says is kept in
-# the file $said, where the caller names one.
+# added COMMAND ..: runs a command whose last line is 'N passed, M failed' and adds both to the sum.
 # One that cannot be run, ends otherwise, or ends badly with no failure counted, is a failure itself. Behind the numbers rt may
 # say in brackets what they are of.
 added() {
     local log status last
     echo "== $*"
-    log=${said:-$(mktemp)}
+    log=$(mktemp)
     "$@" 2>&1 | tee "$log"
     status=${PIPESTATUS[0]}
     last=$(tail -n 1 "$log")
@@ -58,7 +57,7 @@ added() {
         echo "FAILED: $1 did not run to its end (exit status $status)"
         failed=$((failed + 1))
     fi
-    [[ -n ${said:-} ]] || rm -f "$log"
+    rm -f "$log"
 }
 
 # fresh FILE COMMAND ..: runs the command that makes FILE, unless FILE is there and newer than the text of every crate.
