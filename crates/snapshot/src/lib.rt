@@ -6,7 +6,8 @@ ghost use Rattle.std.specs.Prelude.{◌≡◌, not};
 ghost use Rattle.snapshot.specs.Ranges.{any_of, count_tests, id_tests, distance_tests, prefix_tests, asn_tests, route_tests, rises};
 ghost use Rattle.snapshot.specs.Records.{four_byte, route_form_by, route_forms, stands, size};
 ghost use Rattle.snapshot.specs.Plain.{route_is};
-ghost use Rattle.snapshot.specs.Tables.{short_lengths};
+ghost use Rattle.snapshot.specs.Tables.{short_lengths, short};
+ghost use Rattle.snapshot.specs.Lent.{columns_of, tables_of, lent_columns, lent_tables};
 
 // The limits, with the names of specs/Limits.antt.
 pub const MOST_ROUTERS: u32 = 64;
@@ -201,4 +202,113 @@ pub fn lacks_room(
         | (med < MOST_ROUTES as usize)
         | (nid < MOST_ROUTES as usize)
         | (peer < MOST_ROUTES as usize)
+}
+
+// The columns of the routes, lent to be read.
+#[derive(Clone, Copy)]
+pub struct Columns<'a> {
+    pub router: &'a [u32],
+    pub asn: &'a [u32],
+    pub preference: &'a [u32],
+    pub path: &'a [u32],
+    pub origin: &'a [u32],
+    pub mark: &'a [u32],
+    pub med: &'a [u32],
+    pub nid: &'a [u32],
+    pub peer: &'a [u32],
+}
+
+// The tables of a snapshot, lent to be read: router ids, distances, a column for each field of a prefix, one with its number of routes,
+// and the columns of the routes.
+#[derive(Clone, Copy)]
+pub struct Tables<'a> {
+    pub ids: &'a [u32],
+    pub distances: &'a [u32],
+    pub address: &'a [u32],
+    pub bits: &'a [u32],
+    pub routes: &'a [u32],
+    pub rows: Columns<'a>,
+}
+
+// The columns of the routes, lent to be filled.
+#[derive(Drop)]
+pub struct LentColumns<'a> {
+    pub router: &'a mut [u32],
+    pub asn: &'a mut [u32],
+    pub preference: &'a mut [u32],
+    pub path: &'a mut [u32],
+    pub origin: &'a mut [u32],
+    pub mark: &'a mut [u32],
+    pub med: &'a mut [u32],
+    pub nid: &'a mut [u32],
+    pub peer: &'a mut [u32],
+}
+
+// The tables of a snapshot, lent to be filled.
+#[derive(Drop)]
+pub struct LentTables<'a> {
+    pub ids: &'a mut [u32],
+    pub distances: &'a mut [u32],
+    pub address: &'a mut [u32],
+    pub bits: &'a mut [u32],
+    pub routes: &'a mut [u32],
+    pub rows: LentColumns<'a>,
+}
+
+impl<'a> LentColumns<'a> {
+    // The same columns, to be read.
+    pub fn view(&self) -> Columns<'_>
+        ensures { columns_of result ≡ lent_columns self.now }
+    {
+        Columns {
+            router: &*self.router,
+            asn: &*self.asn,
+            preference: &*self.preference,
+            path: &*self.path,
+            origin: &*self.origin,
+            mark: &*self.mark,
+            med: &*self.med,
+            nid: &*self.nid,
+            peer: &*self.peer,
+        }
+    }
+}
+
+impl<'a> LentTables<'a> {
+    // The same tables, to be read.
+    pub fn view(&self) -> Tables<'_>
+        ensures { tables_of result ≡ lent_tables self.now }
+    {
+        Tables {
+            ids: &*self.ids,
+            distances: &*self.distances,
+            address: &*self.address,
+            bits: &*self.bits,
+            routes: &*self.routes,
+            rows: self.rows.view(),
+        }
+    }
+}
+
+impl<'a> Tables<'a> {
+    // Whether a table is shorter than its limit (ROOM).
+    pub fn lacks_room(&self) -> bool
+        ensures { result ≡ any_of (short (tables_of self.now)) }
+    {
+        let rows = &self.rows;
+        (self.ids.len() < MOST_ROUTERS as usize)
+            | (self.distances.len() < ROOM_DISTANCES)
+            | (self.address.len() < MOST_PREFIXES as usize)
+            | (self.bits.len() < MOST_PREFIXES as usize)
+            | (self.routes.len() < MOST_PREFIXES as usize)
+            | (rows.router.len() < MOST_ROUTES as usize)
+            | (rows.asn.len() < MOST_ROUTES as usize)
+            | (rows.preference.len() < MOST_ROUTES as usize)
+            | (rows.path.len() < MOST_ROUTES as usize)
+            | (rows.origin.len() < MOST_ROUTES as usize)
+            | (rows.mark.len() < MOST_ROUTES as usize)
+            | (rows.med.len() < MOST_ROUTES as usize)
+            | (rows.nid.len() < MOST_ROUTES as usize)
+            | (rows.peer.len() < MOST_ROUTES as usize)
+    }
 }
