@@ -2,13 +2,14 @@
 // greatest key of a listed row, and pack the rows with that key into the front of the list.
 #![tactic(auto)]
 
-ghost use Rattle.std.specs.Prelude.{◌≡◌, ◌≤◌, ◌<◌, length, get_or, replicate, eqb};
+ghost use Rattle.std.specs.Prelude.{◌≡◌, ◌-◌, ◌≤◌, ◌<◌, length, get_or, replicate, eqb};
 ghost use Rattle.model.specs.Rows.{keep, span, column, greatest, keep_least};
 ghost use Rattle.model.specs.Decision.{none};
 ghost use Rattle.model.specs.Contest.{least_or};
 ghost use Rattle.model.specs.Lent.{Inside, Packed};
 ghost use Rattle.model.specs.Columns.{most_rows, past_keys};
 ghost use Rattle.model.specs.Listing.{gathered};
+ghost use Rattle.rows.specs.Lent.{columns_in, cut, Reaches};
 
 // The most routes of a prefix.
 pub const MOST_ROWS: usize = 256;
@@ -21,6 +22,46 @@ pub const NONE: u16 = 65535;
 
 // No key is above it.
 pub const PAST_KEYS: u32 = 4294967295;
+
+// The routes of a prefix: a column for each field, with a MED stored as it counts.
+#[derive(Clone, Copy)]
+pub struct Routes<'a> {
+    pub router: &'a [u32],
+    pub asn: &'a [u32],
+    pub preference: &'a [u32],
+    pub path: &'a [u32],
+    pub origin: &'a [u32],
+    pub med: &'a [u32],
+    pub nid: &'a [u32],
+    pub peer: &'a [u32],
+}
+
+// What a prefix is decided on: the routers' ids, the table of distances and the routes.
+#[derive(Clone, Copy)]
+pub struct Mesh<'a> {
+    pub ids: &'a [u32],
+    pub distances: &'a [u32],
+    pub routes: Routes<'a>,
+}
+
+impl<'a> Routes<'a> {
+    // The routes from one row to another.
+    pub fn part(&self, first: usize, end: usize) -> Routes<'a>
+        requires { (first ≤ end) × Reaches end (columns_in self.now) }
+        ensures { columns_in result ≡ cut first (end - first) (columns_in self.now) }
+    {
+        Routes {
+            router: &self.router[first..end],
+            asn: &self.asn[first..end],
+            preference: &self.preference[first..end],
+            path: &self.path[first..end],
+            origin: &self.origin[first..end],
+            med: &self.med[first..end],
+            nid: &self.nid[first..end],
+            peer: &self.peer[first..end],
+        }
+    }
+}
 
 // Room for a list of all rows, that lists none.
 pub fn unlisted() -> [u16; MOST_ROWS]
