@@ -22,9 +22,9 @@ use Rattle.snapshot.proofs.RecordsLaws.{of_routes}
 use Rattle.snapshot.specs.Format.{Prefix, routes_in}
 use Rattle.snapshot.proofs.ChecksLaws.{length_snoc, routes_in_append}
 use Rattle.snapshot.specs.Reading.{route_of}
-use Rattle.snapshot.specs.Tables.{Columns, Tables, tables, used, put_routes, all_routes, Wide}
+use Rattle.snapshot.specs.Tables.{Columns, used, put_routes, all_routes, Wide}
 use Rattle.cursor.specs.Steps.{id_at, router_place}
-use Rattle.fill.specs.Fill.{ids_in, distance_in, entry_in, behind_distances, filled_from, is_route, routes_from, behind_routes, prefix_with, prefixes_from, Lists, lists, put_prefixes, WideLists}
+use Rattle.fill.specs.Fill.{ids_in, distance_in, entry_in, is_route, routes_from, behind_routes, prefix_with, prefixes_from, Lists, lists, put_prefixes, WideLists}
 use Rattle.model.proofs.ColumnLaws.{sets_append}
 use Rattle.snapshot.proofs.TablesLaws.{length_all, all_append}
 
@@ -204,23 +204,27 @@ module _ {bs : List ℕ} {room at₀ row₀ : ℕ} {c₀ : Columns} where
     taken_alike = subst (λ (d : Columns). Alike d c₀) (sym s.put) (alike_put c₀ row₀ s.so)
 
     -- all is taken: the row and the place behind the routes, and their columns
-    abbrev All : Type 0
-    All =
-        (row ≡ row₀ + length (routes_from (room - row₀) bs at₀)) × (at ≡ behind_routes (room - row₀) bs at₀)
+    abbrev All : ℕ → Type 0
+    All end =
+        (end ≡ row₀ + length (routes_from (room - row₀) bs at₀)) × (at ≡ behind_routes (room - row₀) bs at₀)
         × (c ≡ put_routes c₀ row₀ (routes_from (room - row₀) bs at₀))
 
-    none_left : routes_from (room - row) bs at ≡ [] → behind_routes (room - row) bs at ≡ at → All
+    none_left : routes_from (room - row) bs at ≡ [] → behind_routes (room - row) bs at ≡ at → All row
     none_left e place =
         let is : routes_from (room - row₀) bs at₀ ≡ s.so = s.left ∙ ap (λ (l : List Route). s.so ++ l) e ∙ append-nil s.so in
         (s.rows ∙ ap (λ (l : List Route). row₀ + length l) (sym is), sym (s.same ∙ place), s.put ∙ ap (put_routes c₀ row₀) (sym is))
 
-    pub taken_stop : row < room → is_route bs at ≡ false → All
+    pub taken_stop : row < room → is_route bs at ≡ false → All row
     taken_stop l e =
         let more : room - row ≡ suc (room - suc row) = omega arith in
         none_left (routes_turn bs at e more) (behind_turn bs at e more)
 
-    pub taken_end : room ≤ row → All
-    taken_end l = let none : room - row ≡ 0 = omega arith in none_left (routes_none bs at none) (behind_none bs at none)
+    pub taken_end : room ≤ row → All room
+    taken_end l =
+        let none : room - row ≡ 0 = omega arith in
+        let within : row ≤ room = s.within in
+        let end : row ≡ room = omega arith in
+        subst All end (none_left (routes_none bs at none) (behind_none bs at none))
 
     pub taken_next : {d : Columns} {r : Route} {next : ℕ} → row < room → is_route bs at ≡ true → r ≡ route_of (values_at (form_at route_forms bs at) bs at)
         → next ≡ at + size (form_at route_forms bs at) → d ≡ put_routes c row (r ∷ []) → Taken bs room at₀ row₀ c₀ next (row + 1) d
@@ -382,14 +386,3 @@ module _ {bs : List ℕ} {m at₀ : ℕ} {t₀ : Lists} where
           inside = subst (λ (k : ℕ). k ≤ length bs) (sym place) room.0;
           few = omega (arith, room.1);
         }
-
--- ---- the whole
-
-pub tables_filled : (bs : List ℕ) (n m : ℕ) (t : Tables) {at : ℕ} {ids ds a b c : List ℕ} {rows : Columns}
-    → at ≡ behind_distances n → ids ≡ sets t.ids 0 (ids_in bs n) → ds ≡ table (length t.distances) (entry_in bs n t.distances)
-    → lists a b c rows ≡ put_prefixes (lists t.address t.bits t.routes t.rows) (prefixes_from m bs at 0)
-    → tables ids ds a b c rows ≡ filled_from bs n m t
-tables_filled bs n m t {a = a} {b = b} {c = c} {rows = rows} place e f g =
-    ap₂ (λ (x y : List ℕ). tables x y a b c rows) e f
-    ∙ ap (λ (l : Lists). tables (sets t.ids 0 (ids_in bs n)) (table (length t.distances) (entry_in bs n t.distances)) l.address l.bits l.routes l.rows)
-    (g ∙ ap (λ (k : ℕ). put_prefixes (lists t.address t.bits t.routes t.rows) (prefixes_from m bs k 0)) place)

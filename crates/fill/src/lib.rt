@@ -6,11 +6,12 @@ ghost use Rattle.std.proofs.lemmas.List.Edits.{sets};
 ghost use Rattle.model.specs.Rows.{table};
 ghost use Rattle.snapshot.specs.Limits.{most_routers, room_distances};
 ghost use Rattle.snapshot.specs.Plain.{route_is};
-ghost use Rattle.snapshot.specs.Tables.{columns, put_routes, Wide};
-ghost use Rattle.fill.specs.Fill.{ids_in, distance_in, entry_in, behind_distances, Spans, is_route};
+ghost use Rattle.snapshot.specs.Tables.{put_routes, Wide};
+ghost use Rattle.snapshot.specs.Lent.{lent_columns, lent_tables, KeepsColumns, Keeps};
+ghost use Rattle.fill.specs.Fill.{ids_in, distance_in, entry_in, behind_distances, Spans, is_route, with_prefix};
 
 use cursor::Network;
-use snapshot::Route;
+use snapshot::{LentColumns, LentTables, Route};
 
 // How far behind the routers the first distance stands: the count record, a kind byte and a pair.
 const FIRST_DISTANCE: usize = snapshot::COUNT_SIZE + 3;
@@ -83,32 +84,20 @@ pub fn fill_distances(input: &[u8], n: usize, distances: &mut [u32])
 }
 
 // Puts a route into a row of the columns.
-pub fn put_route(
-    row: usize,
-    r: Route,
-    router: &mut [u32],
-    asn: &mut [u32],
-    preference: &mut [u32],
-    path: &mut [u32],
-    origin: &mut [u32],
-    mark: &mut [u32],
-    med: &mut [u32],
-    nid: &mut [u32],
-    peer: &mut [u32],
-)
-    requires { Wide (row + 1) (columns router.old asn.old preference.old path.old origin.old mark.old med.old nid.old peer.old) }
-    ensures { columns router.new asn.new preference.new path.new origin.new mark.new med.new nid.new peer.new
-        ≡ put_routes (columns router.old asn.old preference.old path.old origin.old mark.old med.old nid.old peer.old) row (route_is r ∷ []) }
+pub fn put_route(row: usize, r: Route, rows: &mut LentColumns<'_>)
+    requires { Wide (row + 1) (lent_columns rows.old) }
+    ensures put { lent_columns rows.new ≡ put_routes (lent_columns rows.old) row (route_is r ∷ []) }
+    ensures kept { KeepsColumns rows.old rows.new }
 {
-    router[row] = r.router;
-    asn[row] = r.asn;
-    preference[row] = r.preference;
-    path[row] = r.path;
-    origin[row] = r.origin;
-    mark[row] = r.mark;
-    med[row] = r.med;
-    nid[row] = r.nid;
-    peer[row] = r.peer;
+    rows.router[row] = r.router;
+    rows.asn[row] = r.asn;
+    rows.preference[row] = r.preference;
+    rows.path[row] = r.path;
+    rows.origin[row] = r.origin;
+    rows.mark[row] = r.mark;
+    rows.med[row] = r.med;
+    rows.nid[row] = r.nid;
+    rows.peer[row] = r.peer;
 }
 
 // Whether a whole route record stands at a place, given the kind byte there.
@@ -120,19 +109,13 @@ pub fn is_route(input: &[u8], at: usize, kind: u8) -> bool
     snapshot::route_stands(kind) & (at + size <= input.len())
 }
 
-// Puts a prefix and its number of routes into a row of the columns.
-pub fn put_prefix(
-    p: usize,
-    network: Network,
-    inside: u32,
-    address: &mut [u32],
-    bits: &mut [u32],
-    routes: &mut [u32],
-)
-    requires { (p < length address.old) × (p < length bits.old) × (p < length routes.old) }
-    ensures { (address.new ≡ set address.old p network.address) × (bits.new ≡ set bits.old p network.bits) × (routes.new ≡ set routes.old p inside) }
+// Puts a prefix and its number of routes into a row of the tables.
+pub fn put_prefix(p: usize, network: Network, inside: u32, tables: &mut LentTables<'_>)
+    requires { (p < length tables.old.address.now) × (p < length tables.old.bits.now) × (p < length tables.old.routes.now) }
+    ensures put { lent_tables tables.new ≡ with_prefix (lent_tables tables.old) p network.address network.bits inside }
+    ensures kept { Keeps tables.old tables.new }
 {
-    address[p] = network.address;
-    bits[p] = network.bits;
-    routes[p] = inside;
+    tables.address[p] = network.address;
+    tables.bits[p] = network.bits;
+    tables.routes[p] = inside;
 }
