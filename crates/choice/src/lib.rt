@@ -5,13 +5,10 @@ ghost use Rattle.std.specs.Prelude.{◌≡◌, cond, ◌||◌, ℕ, ◌+◌, ◌
 ghost use Rattle.model.specs.Rows.{keep, some, span, column, keep_least, keep_greatest};
 ghost use Rattle.model.specs.Decision.{none, beats_by, unbeaten_by};
 ghost use Rattle.model.specs.Lent.{Inside, Front, Packed, after_two};
-ghost use Rattle.model.specs.Columns.{most_routers, most_rows, columns, choice_of, distance_in, Placed};
+ghost use Rattle.model.specs.Columns.{most_routers, most_rows, choice_of, distance_in, Placed};
+ghost use Rattle.rows.specs.Lent.{columns_in};
 
-// The row that a router chooses, or none.
-#[derive(Clone, Copy)]
-pub struct Chosen {
-    pub row: u16,
-}
+use rows::Mesh;
 
 // Whether the route q is available to r: it is r's own, or its owner holds it.
 fn offered(router: &[u32], held: &[u16], q: usize, r: u32) -> bool
@@ -226,70 +223,53 @@ fn nearest(
 
 // What the eight steps give r of what is available to it where each router holds what `held` says, in the room that is lent.
 fn choose_in(
-    router: &[u32],
-    asn: &[u32],
-    preference: &[u32],
-    path: &[u32],
-    origin: &[u32],
-    med: &[u32],
-    nid: &[u32],
-    peer: &[u32],
-    ids: &[u32],
-    distances: &[u32],
+    mesh: &Mesh<'_>,
     held: &[u16],
     r: u32,
     key: &mut [u32],
     rows: &mut [u16],
     left: &mut [u16],
-) -> Chosen
-    requires placed { Placed (length held.now) ids.now distances.now (columns router.now asn.now preference.now path.now origin.now med.now nid.now peer.now) }
-    requires r_in_bounds { (r < length held.now) × (length key.old ≡ length router.now) × (length rows.old ≡ length router.now) × (length left.old ≡ length router.now) }
-    ensures { result.row ≡ choice_of (length held.now) ids.now distances.now (columns router.now asn.now preference.now path.now origin.now med.now nid.now peer.now) held.now r }
+) -> u16
+    requires placed { Placed (length held.now) mesh.now.ids.now mesh.now.distances.now (columns_in mesh.now.routes) }
+    requires r_in_bounds { r < length held.now }
+    requires room { (length key.old ≡ length mesh.now.routes.router.now) × (length rows.old ≡ length mesh.now.routes.router.now) × (length left.old ≡ length mesh.now.routes.router.now) }
+    ensures { result ≡ choice_of (length held.now) mesh.now.ids.now mesh.now.distances.now (columns_in mesh.now.routes) held.now r }
 {
-    let offers = available(router, held, r, rows);
-    let kept = preferred(preference, path, origin, &mut rows[..offers]);
-    let free = unbeaten(asn, med, &rows[..kept], left);
-    let own = own_if_any(router, r, &mut left[..free]);
-    let near = nearest(router, nid, peer, ids, distances, r, key, &mut left[..own]);
-    Chosen {
-        row: rows::first(&left[..near]),
-    }
+    let routes = &mesh.routes;
+    let offers = available(routes.router, held, r, rows);
+    let kept = preferred(
+        routes.preference,
+        routes.path,
+        routes.origin,
+        &mut rows[..offers],
+    );
+    let free = unbeaten(routes.asn, routes.med, &rows[..kept], left);
+    let own = own_if_any(routes.router, r, &mut left[..free]);
+    let near = nearest(
+        routes.router,
+        routes.nid,
+        routes.peer,
+        mesh.ids,
+        mesh.distances,
+        r,
+        key,
+        &mut left[..own],
+    );
+    rows::first(&left[..near])
 }
 
-// The row that the eight steps give r of what is available to it where each router holds what `held` says.
-pub fn choose(
-    router: &[u32],
-    asn: &[u32],
-    preference: &[u32],
-    path: &[u32],
-    origin: &[u32],
-    med: &[u32],
-    nid: &[u32],
-    peer: &[u32],
-    ids: &[u32],
-    distances: &[u32],
-    held: &[u16],
-    r: u32,
-) -> Chosen
-    requires placed { Placed (length held.now) ids.now distances.now (columns router.now asn.now preference.now path.now origin.now med.now nid.now peer.now) }
+// The row that the eight steps give r of what is available to it where each router holds what `held` says, or none.
+pub fn choose(mesh: &Mesh<'_>, held: &[u16], r: u32) -> u16
+    requires placed { Placed (length held.now) mesh.now.ids.now mesh.now.distances.now (columns_in mesh.now.routes) }
     requires r_in_bounds { r < length held.now }
-    ensures { result.row ≡ choice_of (length held.now) ids.now distances.now (columns router.now asn.now preference.now path.now origin.now med.now nid.now peer.now) held.now r }
+    ensures { result ≡ choice_of (length held.now) mesh.now.ids.now mesh.now.distances.now (columns_in mesh.now.routes) held.now r }
 {
     let mut key = rows::past();
     let mut kept = rows::unlisted();
     let mut left = rows::unlisted();
-    let rows = router.len();
+    let rows = mesh.routes.router.len();
     choose_in(
-        router,
-        asn,
-        preference,
-        path,
-        origin,
-        med,
-        nid,
-        peer,
-        ids,
-        distances,
+        mesh,
         held,
         r,
         &mut key[..rows],
