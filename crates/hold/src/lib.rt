@@ -43,7 +43,16 @@ pub fn forecast_rows(mesh: &Mesh<'_>, early: &mut [u16], late: &mut [u16])
     let last = &mut vacant_late[..routers];
     let t = &mesh.routes;
     stand::own_rows(
-        t.router, t.asn, t.preference, t.path, t.origin, t.med, t.nid, t.peer, first, last,
+        t.router,
+        t.asn,
+        t.preference,
+        t.path,
+        t.origin,
+        t.med,
+        t.nid,
+        t.peer,
+        first,
+        last,
     );
     hold(mesh, first, early);
     hold(mesh, last, late);

@@ -1,5 +1,5 @@
 -- What the code decides on lent tables is early and late of the snapshot that they hold.
-use Rattle.std.specs.Prelude.{ℕ, ◌+◌, ◌-◌, ◌≤◌, ◌<◌, ◌≡◌, refl, Bool, true, false, ◌||◌, not, List, ◌++◌, map, length, get_or, drop, T, eqb, ltb}
+use Rattle.std.specs.Prelude.{ℕ, ◌+◌, ◌-◌, ◌≤◌, ◌<◌, ◌≡◌, refl, Bool, true, false, ◌||◌, not, List, ◌++◌, map, length, get_or, drop, T, eqb, ltb, Ok}
 use Rattle.std.proofs.Common.{arith, sym, ap, ap₂, subst, ◌∙◌, inl, inr, true≢false, ltb-false, eqb-true, get_or-take}
 use Rattle.std.proofs.Math.Path.{fun_ext}
 use Rattle.std.proofs.lemmas.List.{length-map}
@@ -28,8 +28,8 @@ use Rattle.model.proofs.ColumnLaws.{sets_front}
 use Rattle.model.proofs.Theorems.{forecast, pair_determined}
 use Rattle.decide.specs.declared.Differing.{Differing}
 use Rattle.decide.specs.Decide.{differing_of, Decided}
-use Rattle.outlook.specs.declared.Outlook.TheVariants.{Forecast}
-use Rattle.outlook.specs.Outlook.{Forecasts, given, said, short_of, cut, Shown, Part}
+use Rattle.rows.specs.Lent.{cut}
+use Rattle.outlook.specs.Outlook.{Forecasts, given, said, short_of, whole, Shown, Part}
 
 -- ---- room
 
@@ -91,10 +91,6 @@ columns_of rs = columns
 -- a prefix's part of each column
 abbrev pub parts : List ℕ → ℕ → Columns → Columns
 parts routes p c = cut (start routes p) (column routes p) c
-
--- the columns of tables, but for the marks
-abbrev pub whole : Tables → Columns
-whole t = columns t.rows.router t.rows.asn t.rows.preference t.rows.path t.rows.origin t.rows.med t.rows.nid t.rows.peer
 
 module _ {counts : Counts} {t : Tables} {s : Snapshot} (enough : Room t) (valid : Valid s) (held : Held counts t s) (p : ℕ) (below : p < length s.prefixes) where
   -- what the code decides the prefix on
@@ -215,6 +211,16 @@ module _ {n n' : ℕ} (e : n ≡ n') (ids distances : List ℕ) (c : Columns) wh
       front : (area x : List ℕ) → length x ≡ n → n ≤ length area → x ++ drop n area ≡ sets area 0 x
       front area x z fits = ap (λ (m : ℕ). x ++ drop m area) (sym z) ∙ sym (sets_front area x (omega arith))
 
+-- what is shown of equal ids, distances and columns
+pub shown_same : (n at many : ℕ) {ids ids' distances distances' : List ℕ} {c c' : Columns} {d : Differing} {early₀ early₁ late₀ late₁ : List ℕ}
+    → ids ≡ ids' → distances ≡ distances' → c ≡ c'
+    → Shown (lent_mesh n ids distances (cut at many c)) d early₀ early₁ late₀ late₁
+    → Shown (lent_mesh n ids' distances' (cut at many c')) d early₀ early₁ late₀ late₁
+shown_same n at many {ids} {ids'} {distances} {distances'} {c} {c'} {d} {early₀} {early₁} {late₀} {late₁} e f g h =
+    subst (λ (x : Columns). Shown (lent_mesh n ids' distances' (cut at many x)) d early₀ early₁ late₀ late₁) g
+    (subst (λ (x : List ℕ). Shown (lent_mesh n ids' x (cut at many c)) d early₀ early₁ late₀ late₁) f
+    (subst (λ (x : List ℕ). Shown (lent_mesh n x distances (cut at many c)) d early₀ early₁ late₀ late₁) e h))
+
 -- ---- the whole call
 
 module _ (counts : Counts) (t : Tables) (p : ℕ) (roomy : Room t) (holding : Holding counts t) (below : p < counts.prefixes) where
@@ -274,11 +280,11 @@ module _ (counts : Counts) (t : Tables) (p : ℕ) (roomy : Room t) (holding : Ho
     -- what the code shows is the forecast
     pub shown_given : (early₀ late₀ : List ℕ) → any_of (short_of t early₀ late₀) ≡ false → {d : Differing} {early₁ late₁ : List ℕ}
         → Shown (lent_mesh counts.routers t.ids t.distances (cut first (end - first) (whole t))) d early₀ early₁ late₀ late₁
-        → Forecasts counts t p early₀ late₀ (said (Forecast d)) early₁ late₁
+        → Forecasts counts t p early₀ late₀ (said (Ok d)) early₁ late₁
     shown_given early₀ late₀ enough {d} {early₁} {late₁} h =
-        subst (λ (x : Differing). Forecasts counts t p early₀ late₀ (said (Forecast x)) early₁ late₁) (sym answer)
-        (subst (λ (x : List ℕ). Forecasts counts t p early₀ late₀ (said (Forecast (differing_of (mesh s p) (early L) (late L)))) x late₁) (sym k.early_area)
-        (subst (λ (x : List ℕ). Forecasts counts t p early₀ late₀ (said (Forecast (differing_of (mesh s p) (early L) (late L)))) (sets early₀ 0 (early L)) x) (sym k.late_area)
+        subst (λ (x : Differing). Forecasts counts t p early₀ late₀ (said (Ok x)) early₁ late₁) (sym answer)
+        (subst (λ (x : List ℕ). Forecasts counts t p early₀ late₀ (said (Ok (differing_of (mesh s p) (early L) (late L)))) x late₁) (sym k.early_area)
+        (subst (λ (x : List ℕ). Forecasts counts t p early₀ late₀ (said (Ok (differing_of (mesh s p) (early L) (late L)))) (sets early₀ 0 (early L)) x) (sym k.late_area)
         (given enough s holding.valid holding.held there (early L) (late L) (lent_between roomy holding.valid holding.held p there))))
       where
         L : Mesh

@@ -2,7 +2,6 @@
 use Rattle.std.proofs.Common.{ℕ, List, length, take, ◌≡◌, sym, ap, ◌∙◌, arith, length-take}
 use Rattle.model.specs.Rows.{table, column}
 use Rattle.model.proofs.RowLaws.{table_at}
-use Rattle.model.specs.Decision.{Mesh}
 use Rattle.model.specs.Stability.{Sound}
 use Rattle.model.specs.Contest.{Calm, contest, earliest, latest, at_place, holding}
 use Rattle.model.proofs.ContestLaws.{earliest_calm, latest_calm}
@@ -31,7 +30,7 @@ rests ids distances t x n k {own} e sound c o r l some =
     ap (λ (rows : List ℕ). choice_of n ids distances t rows r) stood ∙ stands_chosen M sound (x n) c r l (λ z. some (here ∙ z)) ∙ sym here
 
 pub hold-requires-clause-rests : goal.hold-requires-clause-rests
-hold-requires-clause-rests c = 
+hold-requires-clause-rests c =
     let a = c.args in
     let t = columns_in a.mesh.now.routes in
     let n = length a.early.now in
