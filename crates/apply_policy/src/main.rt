@@ -4,11 +4,12 @@
 
 ghost use Rattle.std.specs.Prelude.{◌≤◌, length};
 
-use refusal::Refusal;
+use refusal::Refused;
 use revise::Revised;
 use std::env::{Env, FillError};
 use std::io::Read;
 use std::{fs, str};
+use text::Sink;
 
 // What is read of each file at most: one byte more than the longest snapshot and the longest policy, since so many decide the answer.
 const SNAPSHOT: usize = snapshot::LONGEST + 1;
@@ -29,12 +30,13 @@ enum Got {
 }
 
 // Says a refusal on standard error.
-fn say_refused(rt: &HostRuntime, what: &[u8], r: Refusal, place: usize)
+fn say_refused(rt: &HostRuntime, what: &[u8], refused: Refused)
     requires { length what.now ≤ 32 }
 {
     let mut line = [0u8; LINE];
-    let end = lines::put_refusal(&mut line, 0, what, refusal::number(r), place);
-    let _ = rt.stderr().write_all(&line[..end]);
+    let mut sink = Sink::new(&mut line);
+    lines::put_refusal(&mut sink, what, refused);
+    let _ = rt.stderr().write_all(sink.text());
 }
 
 // Reads a file, as much of it as the buffer holds. A last read tells its end from a read that failed.
@@ -82,8 +84,22 @@ fn has_argument(rt: &HostRuntime, i: usize) -> bool {
 // Writes the rewritten snapshot, by way of a buffer in which any fits.
 fn print(rt: &HostRuntime, snapshot: &[u8], policy: &[u8], out: &mut [u8]) {
     match revise::revise(snapshot, policy, out) {
-        Revised::SnapshotRefused(r, at) => say_refused(rt, b"refused snapshot ", r, at),
-        Revised::PolicyRefused(r, at) => say_refused(rt, b"refused policy ", r, at),
+        Revised::SnapshotRefused(r, at) => say_refused(
+            rt,
+            b"refused snapshot ",
+            Refused {
+                refusal: r,
+                place: at,
+            },
+        ),
+        Revised::PolicyRefused(r, at) => say_refused(
+            rt,
+            b"refused policy ",
+            Refused {
+                refusal: r,
+                place: at,
+            },
+        ),
         Revised::Rewritten => {
             if out.len() < snapshot.len() {
                 return;
