@@ -86,29 +86,8 @@ pub fn forecast(
             place: 0,
         });
     }
-    let c = &tables.rows;
-    match tables::examine(
-        counts,
-        tables.ids,
-        tables.distances,
-        tables.address,
-        tables.bits,
-        tables.routes,
-        c.router,
-        c.asn,
-        c.preference,
-        c.path,
-        c.origin,
-        c.mark,
-        c.med,
-        c.nid,
-        c.peer,
-    ) {
-        tables::Verdict::Refused(r) => return Err(Refused {
-            refusal: r,
-            place: 0,
-        }),
-        tables::Verdict::Good => {}
+    if let Err(refusal) = tables::examine(counts, tables) {
+        return Err(Refused { refusal, place: 0 });
     }
     if counts.prefixes <= prefix {
         return Err(Refused {
