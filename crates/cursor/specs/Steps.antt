@@ -157,6 +157,20 @@ route_at bs at four = let v = values_at (route_form_by four) bs at in record {
   peer = get_or v 8 0;
 }
 
+-- what to know with no prefix read
+abbrev pub nothing : ℕ → Sofar
+nothing n = record { routers = n; prefixes = 0; routes = 0; inside = 0; address = 0; bits = 0; router = 0; peer = 0 }
+
+-- what to know with one more prefix
+abbrev pub more_prefix : Sofar → Network → Sofar
+more_prefix k p =
+    record { routers = k.routers; prefixes = k.prefixes + 1; routes = k.routes; inside = 0; address = p.address; bits = p.bits; router = 0; peer = 0 }
+
+-- what to know with one more route
+abbrev pub more_route : Sofar → Route → Sofar
+more_route k r =
+    record { routers = k.routers; prefixes = k.prefixes; routes = k.routes + 1; inside = k.inside + 1; address = k.address; bits = k.bits; router = r.router; peer = r.peer }
+
 -- `k` says what is to be known of the snapshot read so far
 pub record Tells (s : Snapshot) (k : Sofar) : Type 0 where
   pub routers : k.routers ≡ length s.ids

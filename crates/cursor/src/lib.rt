@@ -3,8 +3,9 @@
 // this record habit: they go by the body that the file's own table of kinds gives.
 #![tactic(auto)]
 
-ghost use Rattle.std.specs.Prelude.{◌≡◌, cond, [], ◌∷◌, ◌+◌, ◌≤◌, eqb, length, get_or, drop};
+ghost use Rattle.std.specs.Prelude.{◌≡◌, cond, [], ◌∷◌, ◌+◌, ◌<◌, ◌≤◌, eqb, length, get_or, drop};
 ghost use Rattle.model.specs.Rows.{some};
+ghost use Rattle.snapshot.specs.Limits.{most_prefixes, most_in_prefix, most_routes};
 ghost use Rattle.snapshot.specs.Plain.{route_is};
 ghost use Rattle.snapshot.specs.Records.{forms, count_form, router_form, distance_form, prefix_form, route_form_by, route_forms, size, form_at, values_at};
 ghost use Rattle.snapshot.specs.Format.{count_checks, router_checks, distance_checks, end_checks};
@@ -27,6 +28,9 @@ ghost use Rattle.cursor.specs.Steps.{
   router_place,
   ids_at,
   network_at,
+  nothing,
+  more_prefix,
+  more_route,
   bits_behind,
   route_behind,
   route_at,
@@ -174,6 +178,54 @@ pub fn kind_at(input: &[u8], at: usize) -> u8
         return input[at];
     }
     0
+}
+
+impl Sofar {
+    // Before the first prefix.
+    pub fn nothing(routers: u32) -> Sofar
+        ensures { result ≡ nothing routers }
+    {
+        Sofar {
+            routers,
+            prefixes: 0,
+            routes: 0,
+            inside: 0,
+            address: 0,
+            bits: 0,
+            router: 0,
+            peer: 0,
+        }
+    }
+
+    // With one more prefix, which has no routes yet.
+    pub fn with_prefix(self, p: Network) -> Sofar
+        requires { self.prefixes < most_prefixes }
+        ensures { result ≡ more_prefix self p }
+    {
+        Sofar {
+            prefixes: self.prefixes + 1,
+            inside: 0,
+            address: p.address,
+            bits: p.bits,
+            router: 0,
+            peer: 0,
+            ..self
+        }
+    }
+
+    // With one more route of the latest prefix.
+    pub fn with_route(self, r: Route) -> Sofar
+        requires { (self.routes < most_routes) × (self.inside < most_in_prefix) }
+        ensures { result ≡ more_route self r }
+    {
+        Sofar {
+            routes: self.routes + 1,
+            inside: self.inside + 1,
+            router: r.router,
+            peer: r.peer,
+            ..self
+        }
+    }
 }
 
 impl Cursor {
