@@ -12,22 +12,15 @@ use Rattle.clauses.specs.declared.Scope.TheVariants.{Prefix, Direct, All}
 use Rattle.clauses.specs.Walking.{clause_at, size_at, is_clause, clauses_from, behind_clauses, scoped, clause_of}
 use Rattle.clauses.specs.WalkingLaws.{clause_whole, clauses_as, behind_stop, behind_next}
 
--- ---- the size of a clause's record, where it stands there whole
+-- ---- what is given where it stands
 
-module _ (bs : List ℕ) (at : ℕ) where
-  pub size_some : {n : ℕ} → Some n ≡ (if is_clause bs at then Some (size_at bs at) else None) → (is_clause bs at ≡ true) × (n ≡ size_at bs at)
-  size_some {n} e = go (is_clause bs at) e
-    where
-      go : (b : Bool) → Some n ≡ (if b then Some (size_at bs at) else None) → (b ≡ true) × (n ≡ size_at bs at)
-      go true h = (refl, cc)
-      go false h = absurd cc
+pub some_if : {A : Type 0} (b : Bool) {x y : A} → Some x ≡ (if b then Some y else None) → (b ≡ true) × (x ≡ y)
+some_if true e = (refl, cc)
+some_if false e = absurd cc
 
-  pub size_none : None ≡ (if is_clause bs at then Some (size_at bs at) else None) → is_clause bs at ≡ false
-  size_none e = go (is_clause bs at) e
-    where
-      go : (b : Bool) → None ≡ (if b then Some (size_at bs at) else None) → b ≡ false
-      go true h = absurd cc
-      go false h = refl
+pub none_if : {A : Type 0} (b : Bool) (y : A) → None ≡ (if b then Some y else None) → b ≡ false
+none_if true y e = absurd cc
+none_if false y e = refl
 
 -- ---- clauses taken apart
 

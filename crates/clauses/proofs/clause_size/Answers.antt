@@ -5,16 +5,16 @@ use Rattle.clauses.specs.WalkingLaws.{sized, size_exact, size_direct, size_any}
 use Rattle.clauses.proofs.clause_size.Goals as goal
 use Rattle.clauses.proofs.clause_size.Goals.{in-2, in-3, in-4}
 
-some_if : (b : Bool) (n : ℕ) → then_some b n ≡ (if b then Some n else None)
-some_if true n = refl
-some_if false n = refl
+then_if : (b : Bool) (n : ℕ) → then_some b n ≡ (if b then Some n else None)
+then_if true n = refl
+then_if false n = refl
 
 pub returns : goal.returns
 returns c =
     let bs = c.args.policy.now in
     let at = c.args.at in
     let b : Bool = leb (at + c.match-kind_at.size) (length bs) in
-    c.then_some.ensures ∙ some_if b c.match-kind_at.size
+    c.then_some.ensures ∙ then_if b c.match-kind_at.size
     ∙ elim c.match-kind_at.branch [
       | in-2 w ↦ let k = sym c.kind_at.ensures ∙ w.in-2.is in rw w.size-is (sized bs at k (size_exact bs at k))
       | in-3 w ↦ let k = sym c.kind_at.ensures ∙ w.in-3.is in rw w.size-is (sized bs at k (size_direct bs at k))
