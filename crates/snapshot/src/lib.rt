@@ -2,7 +2,7 @@
 // of its ranges and of the tables' room, which reading and the judging of tables share.
 #![tactic(auto)]
 
-ghost use Rattle.std.specs.Prelude.{◌≡◌, not};
+ghost use Rattle.std.specs.Prelude.{◌≡◌, false, not};
 ghost use Rattle.snapshot.specs.Ranges.{any_of, count_tests, id_tests, distance_tests, prefix_tests, asn_tests, route_tests, rises};
 ghost use Rattle.snapshot.specs.Records.{four_byte, route_form_by, route_forms, stands, size};
 ghost use Rattle.snapshot.specs.Plain.{route_is};
@@ -310,5 +310,87 @@ impl<'a> Tables<'a> {
             | (rows.med.len() < MOST_ROUTES as usize)
             | (rows.nid.len() < MOST_ROUTES as usize)
             | (rows.peer.len() < MOST_ROUTES as usize)
+    }
+}
+
+// Room for the tables of a snapshot, each as long as its limit.
+#[derive(Drop)]
+pub struct Arrays {
+    ids: [u32; MOST_ROUTERS as usize],
+    distances: [u32; ROOM_DISTANCES],
+    address: [u32; MOST_PREFIXES as usize],
+    bits: [u32; MOST_PREFIXES as usize],
+    routes: [u32; MOST_PREFIXES as usize],
+    router: [u32; MOST_ROUTES as usize],
+    asn: [u32; MOST_ROUTES as usize],
+    preference: [u32; MOST_ROUTES as usize],
+    path: [u32; MOST_ROUTES as usize],
+    origin: [u32; MOST_ROUTES as usize],
+    mark: [u32; MOST_ROUTES as usize],
+    med: [u32; MOST_ROUTES as usize],
+    nid: [u32; MOST_ROUTES as usize],
+    peer: [u32; MOST_ROUTES as usize],
+}
+
+impl Arrays {
+    // Room that is to be filled: what stands in it does not matter.
+    pub fn new() -> Arrays {
+        Arrays {
+            ids: [0; MOST_ROUTERS as usize],
+            distances: [0; ROOM_DISTANCES],
+            address: [0; MOST_PREFIXES as usize],
+            bits: [0; MOST_PREFIXES as usize],
+            routes: [0; MOST_PREFIXES as usize],
+            router: [0; MOST_ROUTES as usize],
+            asn: [0; MOST_ROUTES as usize],
+            preference: [0; MOST_ROUTES as usize],
+            path: [0; MOST_ROUTES as usize],
+            origin: [0; MOST_ROUTES as usize],
+            mark: [0; MOST_ROUTES as usize],
+            med: [0; MOST_ROUTES as usize],
+            nid: [0; MOST_ROUTES as usize],
+            peer: [0; MOST_ROUTES as usize],
+        }
+    }
+
+    // The tables, none of which lacks room.
+    pub fn lend(&mut self) -> LentTables<'_>
+        ensures { any_of (short (lent_tables result)) ≡ false }
+    {
+        let Arrays {
+            ids,
+            distances,
+            address,
+            bits,
+            routes,
+            router,
+            asn,
+            preference,
+            path,
+            origin,
+            mark,
+            med,
+            nid,
+            peer,
+        } = self;
+        let rows = LentColumns {
+            router,
+            asn,
+            preference,
+            path,
+            origin,
+            mark,
+            med,
+            nid,
+            peer,
+        };
+        LentTables {
+            ids,
+            distances,
+            address,
+            bits,
+            routes,
+            rows,
+        }
     }
 }
