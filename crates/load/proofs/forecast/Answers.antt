@@ -1,5 +1,5 @@
 -- What is loaded is decided.
-use Rattle.std.proofs.Common.{arith, rules}
+use Rattle.std.proofs.Common.{rules}
 use Rattle.load.specs.LoadLaws.{loaded_long, loaded_placed, loaded_forecast}
 use Rattle.load.proofs.forecast.Goals as goal
 
