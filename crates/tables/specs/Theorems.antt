@@ -6,6 +6,8 @@ use Rattle.std.proofs.Math.Path.{fun_ext}
 use Rattle.std.proofs.lemmas.Simd.{map-map}
 use Rattle.std.proofs.lemmas.Bool.{eqb-false}
 use Rattle.std.proofs.Math.Facts.{or_yes, and_yes, ltb_yes, eqb_yes, T_not}
+use Rattle.std.specs.Result.{MatchResult, IsErrAnd}
+use Rattle.refusal.specs.declared.Refused.{Refused}
 use Rattle.refusal.specs.declared.Refusal.{Refusal}
 use Rattle.refusal.specs.declared.Refusal.TheVariants as refusal
 use Rattle.refusal.specs.Numbers.{number_of}
@@ -70,6 +72,25 @@ module _ {counts : Counts} {t : Tables} where
   verdict_refused (judging.room h) r e = inl (number_tells r refusal.Room (sym e), h)
   verdict_refused (judging.unheld h f) r e = inr (number_tells r refusal.Table (sym e), h, f)
   verdict_refused (judging.held h g) r e = absurd (omega (arith, e, (number_range r).0))
+
+-- a verdict whose refusal is given place 0
+pub record Placed (v : Result Unit Refusal) (w : Result Unit Refused) : Type 0 where
+  pub same : MatchResult v (λ x. w ≡ Ok x) (λ e. IsErrAnd w (λ r. r ≡ record { refusal = e; place = 0 }))
+
+module _ {w : Result Unit Refused} where
+  pub placed_err : {v : Result Unit Refusal} {r : Refused} → Placed v w → w ≡ Err r → (e : Refusal) × (v ≡ Err e) × (r ≡ record { refusal = e; place = 0 })
+  placed_err {v} {r} p e = go v p.same
+    where
+      go : (v : Result Unit Refusal) → MatchResult v (λ x. w ≡ Ok x) (λ e. IsErrAnd w (λ r. r ≡ record { refusal = e; place = 0 })) → (e : Refusal) × (v ≡ Err e) × (r ≡ record { refusal = e; place = 0 })
+      go (Ok x) h = cc
+      go (Err x) h = (x, refl, rw e at h)
+
+  pub placed_ok : {v : Result Unit Refusal} → Placed v w → w ≡ Ok tt → v ≡ Ok tt
+  placed_ok {v} p e = go v p.same
+    where
+      go : (v : Result Unit Refusal) → MatchResult v (λ x. w ≡ Ok x) (λ e. IsErrAnd w (λ r. r ≡ record { refusal = e; place = 0 })) → v ≡ Ok tt
+      go (Ok x) h = refl
+      go (Err x) h = absurd (rw e at h)
 
 -- ---- where the parts of a snapshot that is held stand
 
