@@ -118,14 +118,16 @@ pub fn take_apart(policy: &[u8], at: usize, clauses: &mut [Clause]) -> usize
     MOST_CLAUSES
 }
 
-// Whether a clause fits a route.
-fn fits(c: &Clause, route: &Announced) -> bool
-    ensures { result ≡ fits (clause_of c.now) route.now.address route.now.bits route.now.path route.now.neighbour }
-{
-    match c.scope {
-        Scope::Prefix { address, bits } => (address == route.address) & (bits == route.bits),
-        Scope::Direct { asn } => (route.path == 1) & (asn == route.neighbour),
-        Scope::All => true,
+impl Clause {
+    // Whether it fits a route.
+    fn fits(&self, route: &Announced) -> bool
+        ensures { result ≡ fits (clause_of self.now) route.now.address route.now.bits route.now.path route.now.neighbour }
+    {
+        match self.scope {
+            Scope::Prefix { address, bits } => (address == route.address) & (bits == route.bits),
+            Scope::Direct { asn } => (route.path == 1) & (asn == route.neighbour),
+            Scope::All => true,
+        }
     }
 }
 
@@ -135,7 +137,7 @@ pub fn preferred(clauses: &[Clause], route: &Announced) -> u32
 {
     clauses
         .iter()
-        .find(|c| fits(c, route))
+        .find(|c| c.fits(route))
         .map_or(policy::USUAL, |c| c.preference)
 }
 
