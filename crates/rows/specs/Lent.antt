@@ -1,7 +1,8 @@
 -- The code's lent routes and meshes as those of the definitions.
-use Rattle.std.specs.Prelude.{ℕ, ◌≤◌, List, length, take, drop}
+use Rattle.std.specs.Prelude.{ℕ, ◌≤◌, ◌<◌, ◌≡◌, List, length, take, drop}
 use Rattle.model.specs.Columns.{Columns, columns, lent_mesh}
 use Rattle.model.specs.Decision.{Mesh}
+use Rattle.model.specs.Rows.{column}
 use Rattle.rows.specs.declared.Routes as routes
 use Rattle.rows.specs.declared.Mesh as meshes
 
@@ -33,3 +34,11 @@ pub record Reaches (end : ℕ) (c : Columns) : Type 0 where
   pub med : end ≤ length c.med
   pub nid : end ≤ length c.nid
   pub peer : end ≤ length c.peer
+
+-- something holds of each listed row
+pub record Each (P : ℕ → Type 0) (rows : List ℕ) : Type 0 where
+  pub each : (i : ℕ) → i < length rows → P (column rows i)
+
+-- whatever a call gives at a listed row is f of it
+abbrev pub Gives : {A : Type 0} → (ℕ → A → Type 0) → (ℕ → A) → List ℕ → Type 0
+Gives post f rows = Each (λ q. (a : _) → post q a → a ≡ f q) rows

@@ -2,14 +2,14 @@
 // greatest key of a listed row, and pack the rows with that key into the front of the list.
 #![tactic(auto)]
 
-ghost use Rattle.std.specs.Prelude.{◌≡◌, ◌-◌, ◌≤◌, ◌<◌, length, get_or, replicate, eqb};
-ghost use Rattle.model.specs.Rows.{keep, span, column, greatest, keep_least};
+ghost use Rattle.std.specs.Prelude.{ℕ, Bool, ◌≡◌, ◌-◌, ◌≤◌, ◌<◌, length, get_or, replicate, eqb};
+ghost use Rattle.model.specs.Rows.{keep, span, column, greatest, keep_least, keep_greatest};
 ghost use Rattle.model.specs.Decision.{none};
 ghost use Rattle.model.specs.Contest.{least_or};
 ghost use Rattle.model.specs.Lent.{Inside, Packed};
 ghost use Rattle.model.specs.Columns.{most_rows, past_keys};
 ghost use Rattle.model.specs.Listing.{gathered};
-ghost use Rattle.rows.specs.Lent.{columns_in, cut, Reaches};
+ghost use Rattle.rows.specs.Lent.{columns_in, cut, Reaches, Each, Gives};
 
 // The most routes of a prefix.
 pub const MOST_ROWS: usize = 256;
@@ -132,6 +132,76 @@ pub fn greatest(key: &[u32], rows: &[u16]) -> u32
         }
     }
     high
+}
+
+// Of the listed rows, those that pass a test: packed into the front of the list, so many.
+pub fn keep<F: Fn(usize) -> bool>(rows: &mut [u16], test: F) -> usize
+    requires { Each (F.pre test) rows.old }
+    ensures { (t : ℕ → Bool) → Gives (F.post test) t rows.old → Packed result rows.old rows.new (keep t rows.old) }
+{
+    let mut n = 0;
+    for i in 0..rows.len() {
+        let q = rows[i];
+        if test(q as usize) {
+            rows[n] = q;
+            n += 1;
+        }
+    }
+    n
+}
+
+// The least key of the listed rows; the greatest number where none is listed.
+fn least_key<F: Fn(usize) -> u32>(rows: &[u16], key: F) -> u32
+    requires { Each (F.pre key) rows.now }
+    ensures { (k : ℕ → ℕ) → Gives (F.post key) k rows.now → (result ≡ least_or past_keys k rows.now) × Each (λ q. k q ≤ past_keys) rows.now }
+{
+    let mut low = PAST_KEYS;
+    for q in rows {
+        low = low.min(key(*q as usize));
+    }
+    low
+}
+
+// Of the listed rows, those whose key is the least.
+pub fn keep_lowest<F: Fn(usize) -> u32>(rows: &mut [u16], key: F) -> usize
+    requires { Each (F.pre key) rows.old }
+    ensures { (k : ℕ → ℕ) → Gives (F.post key) k rows.old → Packed result rows.old rows.new (keep_least k rows.old) }
+{
+    let low = least_key(rows, &key);
+    keep(
+        rows,
+        |q|
+            requires { F.pre key q }
+            ensures { (v : ℕ) × F.post key q v × (result ≡ eqb v low) }
+        { key(q) == low },
+    )
+}
+
+// The greatest key of the listed rows; 0 where none is listed.
+fn greatest_key<F: Fn(usize) -> u32>(rows: &[u16], key: F) -> u32
+    requires { Each (F.pre key) rows.now }
+    ensures { (k : ℕ → ℕ) → Gives (F.post key) k rows.now → result ≡ greatest k rows.now }
+{
+    let mut high = 0;
+    for q in rows {
+        high = high.max(key(*q as usize));
+    }
+    high
+}
+
+// Of the listed rows, those whose key is the greatest.
+pub fn keep_highest<F: Fn(usize) -> u32>(rows: &mut [u16], key: F) -> usize
+    requires { Each (F.pre key) rows.old }
+    ensures { (k : ℕ → ℕ) → Gives (F.post key) k rows.old → Packed result rows.old rows.new (keep_greatest k rows.old) }
+{
+    let high = greatest_key(rows, &key);
+    keep(
+        rows,
+        |q|
+            requires { F.pre key q }
+            ensures { (v : ℕ) × F.post key q v × (result ≡ eqb v high) }
+        { key(q) == high },
+    )
 }
 
 // Of the listed rows, those whose key is `value`: packed into the front of the list, so many.
