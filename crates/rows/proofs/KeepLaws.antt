@@ -1,6 +1,6 @@
 -- Rows kept by what calls give: the list from a place on while its front is written over, and the least of keys that fit.
-use Rattle.std.specs.Prelude.{ℕ, suc, ◌+◌, ◌-◌, ◌≤◌, ◌<◌, ◌≡◌, refl, min, max, List, [], ◌∷◌, length, get_or, drop, set, eqb}
-use Rattle.std.proofs.Common.{arith, sym, ap, subst, ◌∙◌, inl, inr, zero-le, le_refl, length-set, drop-drop, drop-set-lt}
+use Rattle.std.specs.Prelude.{ℕ, suc, ◌+◌, ◌-◌, ◌≤◌, ◌<◌, ◌≡◌, refl, min, max, List, [], ◌∷◌, length, drop, set, eqb}
+use Rattle.std.proofs.Common.{arith, sym, ap, subst, ◌∙◌, inl, inr, zero-le, length-set, drop-drop, drop-set-lt}
 use Rattle.model.specs.Rows.{column, keep, least, keep_least}
 use Rattle.model.specs.Contest.{least_or}
 use Rattle.model.proofs.NumberLaws.{le_or_lt}

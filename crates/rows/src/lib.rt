@@ -85,53 +85,12 @@ pub fn at(rows: &[u16], i: usize) -> usize
     rows[i] as usize
 }
 
-// The key of the row listed at place i.
-fn key_at(key: &[u32], rows: &[u16], i: usize) -> u32
-    requires { (i < length rows.now) × (column rows.now i < length key.now) }
-    ensures { result ≡ column key.now (column rows.now i) }
-{
-    let q = at(rows, i);
-    key[q]
-}
-
 // Whether the row listed at place i has the key `value`.
 pub fn has_key(key: &[u32], rows: &[u16], i: usize, value: u32) -> bool
     requires { (i < length rows.now) × (column rows.now i < length key.now) }
     ensures { result ≡ eqb (column key.now (column rows.now i)) value }
 {
-    key_at(key, rows, i) == value
-}
-
-// The least key of the listed rows; the greatest number where none is listed.
-fn least(key: &[u32], rows: &[u16]) -> u32
-    requires { Inside (length key.now) rows.now }
-    ensures { result ≡ least_or past_keys (column key.now) rows.now }
-{
-    let mut low: u32 = PAST_KEYS;
-    for i in 0..rows.len() {
-        let k = key_at(key, rows, i);
-        if k < low {
-            low = k;
-            continue;
-        }
-    }
-    low
-}
-
-// The greatest key of the listed rows; 0 where none is listed.
-pub fn greatest(key: &[u32], rows: &[u16]) -> u32
-    requires { Inside (length key.now) rows.now }
-    ensures { result ≡ greatest (column key.now) rows.now }
-{
-    let mut high: u32 = 0;
-    for i in 0..rows.len() {
-        let k = key_at(key, rows, i);
-        if high < k {
-            high = k;
-            continue;
-        }
-    }
-    high
+    key[rows[i] as usize] == value
 }
 
 // Of the listed rows, those that pass a test: packed into the front of the list, so many.
@@ -204,39 +163,13 @@ pub fn keep_highest<F: Fn(usize) -> u32>(rows: &mut [u16], key: F) -> usize
     )
 }
 
-// Of the listed rows, those whose key is `value`: packed into the front of the list, so many.
-pub fn keep_equal(key: &[u32], rows: &mut [u16], value: u32) -> usize
-    requires { Inside (length key.now) rows.old }
-    ensures { Packed result rows.old rows.new (keep (λ q. eqb (column key.now q) value) rows.old) }
-{
-    let mut n: usize = 0;
-    for i in 0..rows.len() {
-        let q = rows[i];
-        if has_key(key, rows, i, value) {
-            rows[n] = q;
-            n += 1;
-            continue;
-        }
-    }
-    n
-}
-
-// Of the listed rows, those whose key is the least.
-pub fn keep_least(key: &[u32], rows: &mut [u16]) -> usize
-    requires { Inside (length key.now) rows.old }
-    ensures { Packed result rows.old rows.new (keep_least (column key.now) rows.old) }
-{
-    let low = least(key, rows);
-    keep_equal(key, rows, low)
-}
-
 // Lists every row.
 pub fn keep_all(rows: &mut [u16])
     requires { length rows.old ≤ most_rows }
     ensures { rows.new ≡ span 0 (length rows.old) }
 {
-    for i in 0..rows.len() {
-        rows[i] = i as u16;
+    for (i, row) in rows.iter_mut().enumerate() {
+        *row = i as u16;
     }
 }
 
@@ -244,10 +177,7 @@ pub fn keep_all(rows: &mut [u16])
 pub fn first(rows: &[u16]) -> u16
     ensures { result ≡ get_or rows.now 0 none }
 {
-    if rows.len() == 0 {
-        return NONE;
-    }
-    rows[0]
+    rows.first().copied().unwrap_or(NONE)
 }
 
 // The keys of the listed rows, in the order of the list.
@@ -255,7 +185,7 @@ pub fn gather(key: &[u32], rows: &[u16], out: &mut [u32])
     requires { Inside (length key.now) rows.now × (length out.old ≡ length rows.now) }
     ensures { out.new ≡ gathered key.now rows.now }
 {
-    for i in 0..rows.len() {
-        out[i] = key_at(key, rows, i);
+    for (i, q) in rows.iter().enumerate() {
+        out[i] = key[*q as usize];
     }
 }

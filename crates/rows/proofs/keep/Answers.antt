@@ -1,7 +1,6 @@
-use Rattle.std.proofs.Common.{ℕ, ◌≡◌, ◌<◌, refl, sym, ap, subst, ◌∙◌, arith, length}
-use Rattle.model.specs.Rows.{column}
-use Rattle.model.proofs.ListLaws.{squeeze, squeeze_off, squeeze_on, squeeze_here, pack_end}
-use Rattle.rows.proofs.KeepLaws.{ahead, ahead_is, ahead_off, ahead_on}
+use Rattle.std.proofs.Common.{◌<◌, refl, arith, length}
+use Rattle.model.proofs.ListLaws.{squeeze_off, squeeze_on, squeeze_here, pack_end}
+use Rattle.rows.proofs.KeepLaws.{ahead_is, ahead_off, ahead_on}
 use Rattle.rows.proofs.keep.Goals as goal
 use Rattle.rows.proofs.keep.Goals.{then-test, else-test}
 

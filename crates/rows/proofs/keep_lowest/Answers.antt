@@ -1,5 +1,5 @@
-use Rattle.std.proofs.Common.{ℕ, ◌≡◌, ◌<◌, ◌≤◌, rules, arith, length, ap, ◌∙◌, sym, eqb}
-use Rattle.model.specs.Rows.{column, keep}
+use Rattle.std.proofs.Common.{ℕ, rules, ap, ◌∙◌, sym, eqb}
+use Rattle.model.specs.Rows.{keep}
 use Rattle.model.specs.Columns.{past_keys}
 use Rattle.model.proofs.ListLaws.{packed_is}
 use Rattle.rows.proofs.KeepLaws.{keep_least_is}

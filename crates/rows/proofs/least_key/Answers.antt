@@ -1,4 +1,4 @@
-use Rattle.std.proofs.Common.{ℕ, ◌≡◌, ◌<◌, ◌≤◌, rules, arith, length, below_more}
+use Rattle.std.proofs.Common.{◌≡◌, ◌<◌, ◌≤◌, rules, arith, length, below_more}
 use Rattle.model.specs.Rows.{column}
 use Rattle.model.proofs.ListLaws.{lower_end}
 use Rattle.model.specs.Columns.{past_keys}
