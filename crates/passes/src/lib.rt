@@ -5,13 +5,13 @@
 ghost use Rattle.std.specs.Prelude.{◌≡◌, ◌+◌, ◌≤◌, ◌<◌, length, map};
 ghost use Rattle.model.specs.Rows.{column, start};
 ghost use Rattle.snapshot.specs.Limits.{most_prefixes, most_routes};
-ghost use Rattle.snapshot.specs.Lent.{tables_of};
+ghost use Rattle.snapshot.specs.Lent.{tables_of, lent_tables};
 ghost use Rattle.policy.specs.Rewriting.{usual, with_rows};
 ghost use Rattle.clauses.specs.Walking.{clause_of, session_of, session_by, sessions_from};
 ghost use Rattle.passes.specs.Passes.{rewrite_columns, rewrite_tables, KeepsRewrite, entries, Owned, of_row, prefix_field, ruled_row, passed, passed_all, applied, Long, Told, Lent};
 
 use clauses::{Announced, Clause, Named, Scope};
-use snapshot::{Columns, Tables};
+use snapshot::{Columns, LentColumns, LentTables, Tables};
 
 // The most routes that tables hold.
 const MOST_ROWS: usize = snapshot::MOST_ROUTES as usize;
@@ -66,6 +66,49 @@ impl<'a> RewriteTables<'a> {
                 nid: self.nid,
                 peer: self.peer,
             },
+        }
+    }
+}
+
+// Tables that were lent to be filled are lent on to be rewritten.
+impl<'a> From<LentTables<'a>> for RewriteTables<'a> {
+    ghost from_gives = { λ lent tables. rewrite_tables tables ≡ lent_tables lent };
+
+    fn from(lent: LentTables<'a>) -> RewriteTables<'a> {
+        let LentTables {
+            ids,
+            distances,
+            address,
+            bits,
+            routes,
+            rows,
+        } = lent;
+        let LentColumns {
+            router,
+            asn,
+            preference,
+            path,
+            origin,
+            mark,
+            med,
+            nid,
+            peer,
+        } = rows;
+        RewriteTables {
+            ids,
+            distances,
+            address,
+            bits,
+            routes,
+            router,
+            asn,
+            preference,
+            path,
+            origin,
+            mark,
+            med,
+            nid,
+            peer,
         }
     }
 }
