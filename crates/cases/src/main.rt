@@ -8,26 +8,17 @@
 
 ghost use Rattle.std.specs.Prelude.{◌≡◌, ◌++◌, suc, ◌+◌, ◌≤◌, length};
 ghost use Rattle.snapshot.specs.Limits.{most_routes, longest};
-ghost use Rattle.snapshot.specs.Tables.{columns, tables};
+ghost use Rattle.snapshot.specs.Lent.{tables_of, lent_tables, Keeps};
 ghost use Rattle.tables.specs.Judging.{Decides};
-ghost use Rattle.text.specs.Text.{ascii, decimal, Puts};
+ghost use Rattle.text.specs.Text.{ascii, decimal, HasRoom, PutsAtMost};
 ghost use Rattle.lines.specs.Lines.{widest};
 ghost use Rattle.roundtrip.specs.Trips.{Written};
-ghost use Rattle.cases.specs.Cases.{Kept, finding, found, accepted_line, finding_line, widest_line};
+ghost use Rattle.cases.specs.Cases.{found, accepted_line, finding_line, widest_line};
 
-use refusal::Refusal;
-use scan::Read;
-use snapshot::Counts;
+use refusal::Refused;
+use snapshot::{Arrays, Counts, LentColumns, LentTables, Tables};
 use std::fs;
-use text::{put_decimal, put_text};
-use writer::Write;
-
-// What is found of a file: its counts and whether it was written as the same bytes again, or a refusal with its place.
-#[derive(Clone, Copy)]
-enum Finding {
-    Accepted(Counts, bool),
-    Refused(Refusal, usize),
-}
+use text::Sink;
 
 // What is read of a file at most: one byte more than the longest snapshot, since so many decide the answer.
 const INPUT: usize = snapshot::LONGEST + 1;
@@ -36,163 +27,65 @@ const INPUT: usize = snapshot::LONGEST + 1;
 const LINE: usize = 128;
 
 // Whether counts and tables are written as these bytes.
-fn written_as(
-    input: &[u8],
-    counts: Counts,
-    ids: &[u32],
-    distances: &[u32],
-    address: &[u32],
-    bits: &[u32],
-    routes: &[u32],
-    router: &[u32],
-    asn: &[u32],
-    preference: &[u32],
-    path: &[u32],
-    origin: &[u32],
-    mark: &[u32],
-    med: &[u32],
-    nid: &[u32],
-    peer: &[u32],
-    again: &mut [u8],
-) -> bool
+fn written_as(input: &[u8], counts: Counts, tables: &Tables<'_>, again: &mut [u8]) -> bool
     requires { length input.now ≤ length again.old }
-    ensures { Decides (Written input.now counts (tables ids.now distances.now address.now bits.now routes.now (columns router.now asn.now preference.now path.now origin.now mark.now med.now nid.now peer.now))) result }
+    ensures { Decides (Written input.now counts (tables_of tables.now)) result }
 {
-    match writer::write_snapshot(
-        counts, ids, distances, address, bits, routes, router, asn, preference, path, origin, mark,
-        med, nid, peer, again,
-    ) {
-        Write::Written(n) => &again[..n] == input,
-        Write::Refused(_, _) => false,
+    match writer::write_snapshot(counts, tables, again) {
+        Ok(n) => &again[..n] == input,
+        Err(_) => false,
     }
 }
 
-// Writes what was read into lent tables again and compares.
-fn compared(
-    read: Read,
-    input: &[u8],
-    ids: &[u32],
-    distances: &[u32],
-    address: &[u32],
-    bits: &[u32],
-    routes: &[u32],
-    router: &[u32],
-    asn: &[u32],
-    preference: &[u32],
-    path: &[u32],
-    origin: &[u32],
-    mark: &[u32],
-    med: &[u32],
-    nid: &[u32],
-    peer: &[u32],
-    again: &mut [u8],
-) -> Finding
-    requires { (length input.now ≤ length again.old) × Kept read input.now (tables ids.now distances.now address.now bits.now routes.now (columns router.now asn.now preference.now path.now origin.now mark.now med.now nid.now peer.now)) }
-    ensures { result ≡ finding read }
-{
-    match read {
-        Read::Refused(r, at) => Finding::Refused(r, at),
-        Read::Accepted(counts) => {
-            let same = written_as(
-                input, counts, ids, distances, address, bits, routes, router, asn, preference,
-                path, origin, mark, med, nid, peer, again,
-            );
-            Finding::Accepted(counts, same)
-        }
-    }
-}
-
-// Finds out about a snapshot's bytes, with tables of its own but for that of the peers.
-fn examined(input: &[u8], peer: &mut [u32]) -> Finding
+// Finds out about a snapshot's bytes, with tables that are lent for it: its counts, and whether it is written as the same bytes again;
+// or a refusal.
+fn examined(input: &[u8], tables: &mut LentTables<'_>) -> Result<(Counts, bool), Refused>
     requires { length input.now ≤ suc longest }
-    ensures { result ≡ found input.now (length peer.old) }
+    ensures finds { result ≡ found input.now (lent_tables tables.old) }
+    ensures kept { Keeps tables.old tables.new }
 {
-    let mut ids = [0u32; snapshot::MOST_ROUTERS as usize];
-    let mut distances = [0u32; snapshot::ROOM_DISTANCES];
-    let mut address = [0u32; snapshot::MOST_PREFIXES as usize];
-    let mut bits = [0u32; snapshot::MOST_PREFIXES as usize];
-    let mut routes = [0u32; snapshot::MOST_PREFIXES as usize];
-    let mut router = [0u32; snapshot::MOST_ROUTES as usize];
-    let mut asn = [0u32; snapshot::MOST_ROUTES as usize];
-    let mut preference = [0u32; snapshot::MOST_ROUTES as usize];
-    let mut path = [0u32; snapshot::MOST_ROUTES as usize];
-    let mut origin = [0u32; snapshot::MOST_ROUTES as usize];
-    let mut mark = [0u32; snapshot::MOST_ROUTES as usize];
-    let mut med = [0u32; snapshot::MOST_ROUTES as usize];
-    let mut nid = [0u32; snapshot::MOST_ROUTES as usize];
     let mut again = [0u8; INPUT];
-    let read = reader::read_snapshot(
-        input,
-        &mut ids,
-        &mut distances,
-        &mut address,
-        &mut bits,
-        &mut routes,
-        &mut router,
-        &mut asn,
-        &mut preference,
-        &mut path,
-        &mut origin,
-        &mut mark,
-        &mut med,
-        &mut nid,
-        peer,
-    );
-    compared(
-        read,
-        input,
-        &ids,
-        &distances,
-        &address,
-        &bits,
-        &routes,
-        &router,
-        &asn,
-        &preference,
-        &path,
-        &origin,
-        &mark,
-        &med,
-        &nid,
-        peer,
-        &mut again,
-    )
+    let counts = reader::read_snapshot(input, tables)?;
+    let same = written_as(input, counts, &tables.view(), &mut again);
+    Ok((counts, same))
 }
 
 // Puts a number behind a blank.
-fn put_count(out: &mut [u8], at: usize, n: u32) -> usize
-    requires { at + 11 ≤ length out.old }
-    ensures { Puts out.old out.new at result (ascii " " ++ decimal n) × (result ≤ at + 11) }
+fn put_count(sink: &mut Sink<'_>, n: u32)
+    requires { HasRoom sink.old 11 }
+    ensures { PutsAtMost 11 sink.old sink.new (ascii " " ++ decimal n) }
 {
-    let next = put_text(out, at, b" ");
-    put_decimal(out, next, n as u64)
+    sink.put_text(b" ");
+    sink.put_decimal(n as u64);
 }
 
 // Puts what was found of a snapshot that was accepted.
-fn put_accepted(out: &mut [u8], at: usize, counts: Counts, same: bool) -> usize
-    requires { at + widest ≤ length out.old }
-    ensures { Puts out.old out.new at result (accepted_line counts same) × (result ≤ at + widest) }
+fn put_accepted(sink: &mut Sink<'_>, counts: Counts, same: bool)
+    requires { HasRoom sink.old widest }
+    ensures { PutsAtMost widest sink.old sink.new (accepted_line counts same) }
 {
-    let word = put_text(out, at, b"accepted");
-    let routers = put_count(out, word, counts.routers);
-    let prefixes = put_count(out, routers, counts.prefixes);
-    let routes = put_count(out, prefixes, counts.routes);
+    sink.put_text(b"accepted");
+    put_count(sink, counts.routers);
+    put_count(sink, counts.prefixes);
+    put_count(sink, counts.routes);
     if same {
-        return put_text(out, routes, b" same bytes\n");
+        sink.put_text(b" same bytes\n");
+        return;
     }
-    put_text(out, routes, b" other bytes\n")
+    sink.put_text(b" other bytes\n");
 }
 
 // Puts the line of a file with these bytes.
-fn put_line(out: &mut [u8], name: &[u8], input: &[u8], peer: &mut [u32]) -> usize
-    requires { (length name.now + 1 + widest ≤ length out.old) × (length input.now ≤ suc longest) }
-    ensures { Puts out.old out.new 0 result (name.now ++ ascii " " ++ finding_line (found input.now (length peer.old))) × (result ≤ length name.now + 1 + widest) }
+fn put_line(sink: &mut Sink<'_>, name: &[u8], input: &[u8], tables: &mut LentTables<'_>)
+    requires { HasRoom sink.old (length name.now + 1 + widest) × (length input.now ≤ suc longest) }
+    ensures puts { PutsAtMost (length name.now + 1 + widest) sink.old sink.new (name.now ++ ascii " " ++ finding_line (found input.now (lent_tables tables.old))) }
+    ensures kept { Keeps tables.old tables.new }
 {
-    let named = put_text(out, 0, name);
-    let at = put_text(out, named, b" ");
-    match examined(input, peer) {
-        Finding::Accepted(counts, same) => put_accepted(out, at, counts, same),
-        Finding::Refused(r, place) => lines::put_refused(out, at, refusal::number(r), place),
+    sink.put_text(name);
+    sink.put_text(b" ");
+    match examined(input, tables) {
+        Ok((counts, same)) => put_accepted(sink, counts, same),
+        Err(refused) => lines::put_refused(sink, refused),
     }
 }
 
@@ -209,10 +102,16 @@ fn run(rt: &HostRuntime, name: &str, room: usize)
     };
     let mut input = [0u8; INPUT];
     let n = files::read_full(&mut file, &mut input);
-    let mut peer = [0u32; snapshot::MOST_ROUTES as usize];
+    let mut arrays = Arrays::new();
+    let whole = arrays.lend();
+    let peer = whole.rows.peer;
+    let (peer, _) = peer.split_at_mut(room);
+    let rows = LentColumns { peer, ..whole.rows };
+    let mut tables = LentTables { rows, ..whole };
     let mut out = [0u8; LINE];
-    let end = put_line(&mut out, name.as_bytes(), &input[..n], &mut peer[..room]);
-    let _ = rt.write_all(&out[..end]);
+    let mut sink = Sink::new(&mut out);
+    put_line(&mut sink, name.as_bytes(), &input[..n], &mut tables);
+    let _ = rt.write_all(sink.text());
 }
 
 // Reads a file, where each table has room for its limit.

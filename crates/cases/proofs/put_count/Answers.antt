@@ -4,10 +4,10 @@ use Rattle.text.specs.TextLaws.{puts_then}
 use Rattle.cases.proofs.put_count.Goals as goal
 
 pub put_decimal-requires : goal.put_decimal-requires
-put_decimal-requires c = omega (arith, c.put_text-next.ensures.place, ten c.args.n c.ranges.n.fits)
+put_decimal-requires c = omega (arith, ten c.args.n c.ranges.n.fits)
 
 pub returns : goal.returns
 returns c =
-    let p = c.put_text-next.ensures in
+    let p = c.put_text.ensures in
     let q = c.put_decimal.ensures in
-    (puts_then p q, omega (arith, p.place, q.place, ten c.args.n c.ranges.n.fits))
+    record { puts = puts_then p q; short = omega (arith, ten c.args.n c.ranges.n.fits) }
