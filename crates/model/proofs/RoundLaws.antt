@@ -1,7 +1,7 @@
 -- Laws of rounds: how a step is repeated until it changes nothing; and loops over routers, whose rows stand in one list, one router's
 -- after the other's.
 use Rattle.std.specs.Prelude.{ℕ, zero, suc, ◌+◌, ◌-◌, ◌≤◌, ◌<◌, min, ◌≡◌, Bool, cond, eqb, ltb, length, take, drop}
-use Rattle.std.proofs.Common.{zero-le, arith, sym, ap, ap₂, ◌∙◌, length-drop, get_or-take, get_or-drop, length-take-le}
+use Rattle.std.proofs.Common.{zero-le, arith, sym, ap, ap₂, ◌∙◌, length-drop, drop-drop, get_or-take, get_or-drop, length-take-le}
 use Rattle.std.proofs.Math.Nat.{sub-zero}
 use Rattle.std.proofs.Math.Numerals.{add-one}
 use Rattle.std.proofs.Math.Path.{refl}
@@ -71,32 +71,50 @@ module _ {n : ℕ} {ends : List ℕ} where
         rw (e, t.here)
 
 -- ---- a loop that packs the unbeaten rows of each router into the front of a list, and has done so for the routers before r
-pub record Packing (beat : ℕ → ℕ → Bool) (rows counts order₀ : List ℕ) (r from m : ℕ) (order : List ℕ) : Type 0 where
-  pub at : Turn (length rows) counts r from
-  pub few : m ≤ from
+pub record Packing (beat : ℕ → ℕ → Bool) (rows counts order₀ : List ℕ) (r : ℕ) (rest : List ℕ) (m : ℕ) (order : List ℕ) : Type 0 where
+  pub within : r ≤ length counts
+  pub whole : start counts (length counts) ≡ length rows
+  pub left : rest ≡ drop (start counts r) rows
+  pub few : m ≤ start counts r
   pub packed : Packed m order₀ order (unbeaten_runs beat (own_rows rows counts) r)
 
 module _ {beat : ℕ → ℕ → Bool} {rows counts order₀ : List ℕ} where
-  pub packing : start counts (length counts) ≡ length rows → Packing beat rows counts order₀ 0 0 0 order₀
+  pub packing : start counts (length counts) ≡ length rows → Packing beat rows counts order₀ 0 rows 0 order₀
   unfolding unbeaten_runs
-  packing e = record { at = turn e; few = zero-le; packed = record { many = refl; room = zero-le; all = refl } }
+  packing e = record {
+    within = zero-le;
+    whole = e;
+    left = sym (ap (λ (n : ℕ). drop n rows) (start_first counts));
+    few = zero-le;
+    packed = record { many = refl; room = zero-le; all = refl };
+  }
 
-  module _ {r from m : ℕ} {order : List ℕ} (s : Packing beat rows counts order₀ r from m order) where
-    pub packing_next : {n : ℕ} {lent : List ℕ} (k : ℕ) → r < length counts
-        → Packed n (take k (drop m order)) lent (unbeaten_by beat (take (from + column counts r - from) (drop from rows)) (take (from + column counts r - from) (drop from rows)))
-        → Packing beat rows counts order₀ (r + 1) (from + column counts r) (m + n) (take m order ++ (lent ++ drop k (drop m order)))
+  module _ {r m : ℕ} {rest order : List ℕ} (s : Packing beat rows counts order₀ r rest m order) where
+    -- the rows of the router in turn are left
+    pub packing_room : r < length counts → start counts r + column counts r ≤ length rows
+    packing_room l = omega (arith, s.whole, start_within counts r (length counts) l)
+
+    pub packing_left : r < length counts → column counts r ≤ length rest
+    packing_left l = omega (arith, packing_room l, ap length s.left, length-drop (start counts r) rows)
+
+    pub packing_next : {n j : ℕ} {own others lent : List ℕ} (k : ℕ) → j ≡ r + 1 → r < length counts → own ≡ take (column counts r) rest → others ≡ drop (column counts r) rest
+        → Packed n (take k (drop m order)) lent (unbeaten_by beat own own)
+        → Packing beat rows counts order₀ j others (m + n) (take m order ++ (lent ++ drop k (drop m order)))
     unfolding unbeaten_runs
-    packing_next {n} {lent} k l p =
-        let own = own_rows rows counts r in
-        let q : Packed n (take k (drop m order)) lent (unbeaten_by beat own own) = packed_is p (ap (λ (part : List ℕ). unbeaten_by beat part part) (turn_own s.at rows)) in
-        record {
-          at = turn_next s.at l;
-          few = omega (arith, s.few, q.many, keep_short (λ q. not (some (λ p. beat p q) own)) own, length-take (column counts r) (drop (start counts r) rows));
+    packing_next {n} {own} {lent} k j_is l own_is others_are p =
+        let mine = own_rows rows counts r in
+        let same : own ≡ mine = own_is ∙ ap (take (column counts r)) s.left in
+        let q : Packed n (take k (drop m order)) lent (unbeaten_by beat mine mine) = packed_is p (ap (λ (part : List ℕ). unbeaten_by beat part part) same) in
+        rw j_is (record {
+          within = omega arith;
+          whole = s.whole;
+          left = others_are ∙ ap (drop (column counts r)) s.left ∙ drop-drop (column counts r) (start counts r) rows ∙ ap (λ (z : ℕ). drop z rows) (sym (start_next counts r));
+          few = omega (arith, s.few, q.many, start_next counts r, keep_short (λ q. not (some (λ p. beat p q) mine)) mine, length-take (column counts r) (drop (start counts r) rows));
           packed = rw add-one (packed_append k s.packed q);
-        }
+        })
 
     pub packing_end : length counts ≤ r → Packed m order₀ order (unbeaten_runs beat (own_rows rows counts) (length counts))
-    packing_end l = let e : r ≡ length counts = omega (arith, s.at.within) in rw e at s.packed
+    packing_end l = let e : r ≡ length counts = omega (arith, s.within) in rw e at s.packed
 
 -- ---- part of a column
 
