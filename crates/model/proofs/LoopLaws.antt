@@ -1,11 +1,12 @@
 -- Laws by which a loop over rows is proved. A loop goes from row 0 up, and its invariant speaks of the rows that are left,
 -- `rest i n`: the rows from i up to n. So a turn takes one row off the front, as the definitions of `Rows` do.
-use Rattle.std.specs.Prelude.{ℕ, suc, ◌+◌, ◌-◌, ◌≤◌, ◌<◌, ◌≡◌, refl, Bool, true, false, not, ◌&&◌, ◌||◌, List, [], ◌∷◌, length, get_or, set, ltb}
-use Rattle.std.proofs.Common.{zero-le, not-suc-le-zero, add-one, arith, sym, ap, ap₂, ◌∙◌, subst, true≢false, length-set, get_or-set_same, get_or-set_other, ext_get_or, below_more, ltb-true, ltb-false}
+use Rattle.std.specs.Prelude.{ℕ, suc, ◌+◌, ◌-◌, ◌≤◌, ◌<◌, ◌≡◌, refl, Bool, true, false, not, ◌&&◌, ◌||◌, List, [], ◌∷◌, length, get_or, set, eqb, ltb}
+use Rattle.std.proofs.Common.{zero-le, not-suc-le-zero, add-one, arith, sym, ap, ap₂, ◌∙◌, subst, true≢false, length-set, get_or-set_same, get_or-set_other, ext_get_or, below_more, ltb-true, ltb-false, eqb-true}
+use Rattle.std.proofs.lemmas.List.{set-get_or}
 use Rattle.std.proofs.Math.Nat.{sub-zero}
 use Rattle.std.proofs.lemmas.Bool.{not-true, not-false}
 use Rattle.model.specs.Rows.{keep, some, span, table}
-use Rattle.model.proofs.RowLaws.{by, both, some_append, some_snoc, table_length, table_at, table_append, table_snoc}
+use Rattle.model.proofs.RowLaws.{by, both, or_false, some_append, some_snoc, table_length, table_at, table_append, table_snoc}
 
 -- the rows from i up to n
 abbrev pub rest : ℕ → ℕ → List ℕ
@@ -139,11 +140,12 @@ module _ {f : ℕ → ℕ} {n : ℕ} {xs₀ : List ℕ} where
   moved e = record { at = stored e; still = λ _. refl }
 
   module _ {i : ℕ} {xs : List ℕ} {b : Bool} (s : Moved f n xs₀ i xs b) where
-    pub moved_none : {v : ℕ} → i < n → v ≡ f i → v ≡ get_or xs i 0 → Moved f n xs₀ (i + 1) xs b
-    moved_none l e g = record { at = stored_skip s.at l (sym (s.at.ahead i (omega arith)) ∙ sym g ∙ e); still = s.still }
-
-    pub moved_one : {v : ℕ} → i < n → v ≡ f i → Moved f n xs₀ (i + 1) (set xs i v) true
-    moved_one l e = record { at = stored_next s.at l e; still = λ t. absurd (true≢false t) }
+    pub moved_next : {v : ℕ} {c : Bool} → i < n → v ≡ f i → c ≡ (b || not (eqb v (get_or xs i 0))) → Moved f n xs₀ (i + 1) (set xs i v) c
+    moved_next {v} l e d = record {
+      at = stored_next s.at l e;
+      still = λ t. let h = or_false b (not (eqb v (get_or xs i 0))) (sym d ∙ t) in
+          ap (set xs i) (eqb-true v (get_or xs i 0) (not-false (eqb v (get_or xs i 0)) h.1)) ∙ set-get_or xs i 0 ∙ s.still h.0;
+    }
 
     pub moved_end : n ≤ i → (xs ≡ table n f) × (b ≡ false → xs ≡ xs₀)
     moved_end l = (stored_end s.at l, s.still)

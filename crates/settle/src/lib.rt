@@ -4,7 +4,7 @@
 // two passes along these.
 #![tactic(auto)]
 
-ghost use Rattle.std.specs.Prelude.{◌≡◌, true, false, not, ℕ, suc, min, length, replicate, eqb, ltb};
+ghost use Rattle.std.specs.Prelude.{◌≡◌, ◌≤◌, true, false, not, ℕ, suc, min, length, replicate, eqb, ltb};
 ghost use Rattle.model.specs.Rows.{keep, table, column};
 ghost use Rattle.model.specs.Decision.{beats_by};
 ghost use Rattle.model.specs.Contest.{times, least_or};
@@ -31,6 +31,7 @@ pub struct Contest<'a> {
     pub med: &'a [u32],
     pub ends: &'a [u32],
     ghost ready: { Ready group.now med.now ends.now },
+    ghost meds_fit: { (q : ℕ) → column med.now q ≤ past_keys },
 }
 
 impl Contest<'_> {
@@ -40,8 +41,8 @@ impl Contest<'_> {
         ensures { (k : ℕ) → column low.new k ≡ least_or (column low.old k) (column self.now.med.now) (keep (λ q. eqb (column self.now.group.now q) k) (passed_rows (own_places self.now.ends.now) state.now (length self.now.ends.now))) }
     {
         let mut from = 0;
-        for (&place, &end) in state.iter().zip(self.ends) {
-            let to = from + reach(place, end);
+        for (r, &end) in self.ends.iter().enumerate() {
+            let to = from + reach(state[r], end);
             group::lower(&self.group[from..to], &self.med[from..to], low);
             from += end as usize;
         }
@@ -56,8 +57,8 @@ impl Contest<'_> {
     {
         let mut from = 0;
         let mut moved = false;
-        for (place, &end) in state.iter_mut().zip(self.ends) {
-            let to = from + end as usize;
+        for (r, place) in state.iter_mut().enumerate() {
+            let to = from + self.ends[r] as usize;
             let next = group::first_spared(&self.group[from..to], &self.med[from..to], low);
             moved |= next != *place;
             *place = next;

@@ -1,10 +1,6 @@
-use Rattle.std.proofs.Common.{◌≡◌, true, false, not, ℕ, suc, min, length, replicate, eqb, ltb, ◌+◌, ◌-◌, ◌*◌, ◌<◌, ◌≤◌}
-use Rattle.model.specs.Rows.{keep, table, column}
-use Rattle.model.specs.Decision.{beats_by}
-use Rattle.model.specs.Contest.{times, least_or}
-use Rattle.model.specs.Columns.{most_routers, most_rows, past_keys}
-use Rattle.model.specs.Listing.{own_places, passed_rows, first_place, round_by, settled_by, Ready}
+-- Each group has the least MED of the passed rows of the routers so far.
+use Rattle.model.proofs.RoundLaws.{Passing}
 use Rattle.settle.proofs.Contest.pass.Given as goal
 
-abbrev pub invariant-loop-place : goal.invariant-loop-place
-invariant-loop-place l = ?
+abbrev pub invariant-loop-r : goal.invariant-loop-r
+invariant-loop-r l = Passing l.self.group.now l.self.med.now l.self.ends.now l.state l.fn.low l.r l.from l.low
