@@ -64,57 +64,58 @@ module _ {n : ℕ} {ends : List ℕ} where
     pub turn_room : r < length ends → from + column ends r ≤ n
     turn_room l = omega (arith, t.here, t.whole, start_within ends r (length ends) l)
 
-    -- the slice of a list of rows that is the router's own
-    pub turn_own : (order : List ℕ) → take (from + column ends r - from) (drop from order) ≡ own_rows order ends r
-    turn_own order =
-        let e : from + column ends r - from ≡ column ends r = omega arith in
-        rw (e, t.here)
+-- the same where the rows of the routers before it are taken off the list
+pub record Left (rows ends : List ℕ) (r : ℕ) (rest : List ℕ) : Type 0 where
+  pub within : r ≤ length ends
+  pub whole : start ends (length ends) ≡ length rows
+  pub here : rest ≡ drop (start ends r) rows
+
+module _ {rows ends : List ℕ} where
+  pub left : start ends (length ends) ≡ length rows → Left rows ends 0 rows
+  left e = record { within = zero-le; whole = e; here = sym (ap (λ (n : ℕ). drop n rows) (start_first ends)) }
+
+  module _ {r : ℕ} {rest : List ℕ} (t : Left rows ends r rest) where
+    pub left_next : {others : List ℕ} → r < length ends → others ≡ drop (column ends r) rest → Left rows ends (r + 1) others
+    left_next l e = record {
+      within = omega arith;
+      whole = t.whole;
+      here = e ∙ ap (drop (column ends r)) t.here ∙ drop-drop (column ends r) (start ends r) rows ∙ ap (λ (n : ℕ). drop n rows) (sym (start_next ends r));
+    }
+
+    pub left_room : r < length ends → column ends r ≤ length rest
+    left_room l = omega (arith, t.whole, start_within ends r (length ends) l, ap length t.here, length-drop (start ends r) rows)
+
+    -- the router's own are the first that are left
+    pub left_own : take (column ends r) rest ≡ own_rows rows ends r
+    left_own = ap (take (column ends r)) t.here
 
 -- ---- a loop that packs the unbeaten rows of each router into the front of a list, and has done so for the routers before r
 pub record Packing (beat : ℕ → ℕ → Bool) (rows counts order₀ : List ℕ) (r : ℕ) (rest : List ℕ) (m : ℕ) (order : List ℕ) : Type 0 where
-  pub within : r ≤ length counts
-  pub whole : start counts (length counts) ≡ length rows
-  pub left : rest ≡ drop (start counts r) rows
+  pub at : Left rows counts r rest
   pub few : m ≤ start counts r
   pub packed : Packed m order₀ order (unbeaten_runs beat (own_rows rows counts) r)
 
 module _ {beat : ℕ → ℕ → Bool} {rows counts order₀ : List ℕ} where
   pub packing : start counts (length counts) ≡ length rows → Packing beat rows counts order₀ 0 rows 0 order₀
   unfolding unbeaten_runs
-  packing e = record {
-    within = zero-le;
-    whole = e;
-    left = sym (ap (λ (n : ℕ). drop n rows) (start_first counts));
-    few = zero-le;
-    packed = record { many = refl; room = zero-le; all = refl };
-  }
+  packing e = record { at = left e; few = zero-le; packed = record { many = refl; room = zero-le; all = refl } }
 
   module _ {r m : ℕ} {rest order : List ℕ} (s : Packing beat rows counts order₀ r rest m order) where
-    -- the rows of the router in turn are left
-    pub packing_room : r < length counts → start counts r + column counts r ≤ length rows
-    packing_room l = omega (arith, s.whole, start_within counts r (length counts) l)
-
-    pub packing_left : r < length counts → column counts r ≤ length rest
-    packing_left l = omega (arith, packing_room l, ap length s.left, length-drop (start counts r) rows)
-
     pub packing_next : {n j : ℕ} {own others lent : List ℕ} (k : ℕ) → j ≡ r + 1 → r < length counts → own ≡ take (column counts r) rest → others ≡ drop (column counts r) rest
         → Packed n (take k (drop m order)) lent (unbeaten_by beat own own)
         → Packing beat rows counts order₀ j others (m + n) (take m order ++ (lent ++ drop k (drop m order)))
     unfolding unbeaten_runs
     packing_next {n} {own} {lent} k j_is l own_is others_are p =
         let mine = own_rows rows counts r in
-        let same : own ≡ mine = own_is ∙ ap (take (column counts r)) s.left in
-        let q : Packed n (take k (drop m order)) lent (unbeaten_by beat mine mine) = packed_is p (ap (λ (part : List ℕ). unbeaten_by beat part part) same) in
+        let q : Packed n (take k (drop m order)) lent (unbeaten_by beat mine mine) = packed_is p (ap (λ (part : List ℕ). unbeaten_by beat part part) (own_is ∙ left_own s.at)) in
         rw j_is (record {
-          within = omega arith;
-          whole = s.whole;
-          left = others_are ∙ ap (drop (column counts r)) s.left ∙ drop-drop (column counts r) (start counts r) rows ∙ ap (λ (z : ℕ). drop z rows) (sym (start_next counts r));
+          at = left_next s.at l others_are;
           few = omega (arith, s.few, q.many, start_next counts r, keep_short (λ q. not (some (λ p. beat p q) mine)) mine, length-take (column counts r) (drop (start counts r) rows));
           packed = rw add-one (packed_append k s.packed q);
         })
 
     pub packing_end : length counts ≤ r → Packed m order₀ order (unbeaten_runs beat (own_rows rows counts) (length counts))
-    packing_end l = let e : r ≡ length counts = omega (arith, s.within) in rw e at s.packed
+    packing_end l = let e : r ≡ length counts = omega (arith, s.at.within) in rw e at s.packed
 
 -- ---- part of a column
 

@@ -26,6 +26,7 @@ fn reach(place: u32, end: u32) -> usize
 }
 
 // The contenders of a prefix by place, router after router: the group and the MED of each, and how many each router has.
+#[derive(Clone, Copy)]
 pub struct Contest<'a> {
     pub group: &'a [u32],
     pub med: &'a [u32],
