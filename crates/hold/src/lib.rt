@@ -41,19 +41,7 @@ pub fn forecast_rows(mesh: &Mesh<'_>, early: &mut [u16], late: &mut [u16])
     let routers = early.len();
     let first = &mut vacant_early[..routers];
     let last = &mut vacant_late[..routers];
-    let t = &mesh.routes;
-    stand::own_rows(
-        t.router,
-        t.asn,
-        t.preference,
-        t.path,
-        t.origin,
-        t.med,
-        t.nid,
-        t.peer,
-        first,
-        last,
-    );
+    stand::own_rows(&mesh.routes, first, last);
     hold(mesh, first, early);
     hold(mesh, last, late);
 }

@@ -1,7 +1,7 @@
 -- Laws by which a loop over rows is proved. A loop goes from row 0 up, and its invariant speaks of the rows that are left,
 -- `rest i n`: the rows from i up to n. So a turn takes one row off the front, as the definitions of `Rows` do.
 use Rattle.std.specs.Prelude.{ℕ, suc, ◌+◌, ◌-◌, ◌≤◌, ◌<◌, ◌≡◌, refl, Bool, true, false, not, ◌&&◌, ◌||◌, List, [], ◌∷◌, length, get_or, set, eqb, ltb}
-use Rattle.std.proofs.Common.{zero-le, not-suc-le-zero, add-one, arith, sym, ap, ap₂, ◌∙◌, subst, true≢false, length-set, get_or-set_same, get_or-set_other, ext_get_or, below_more, ltb-true, ltb-false, eqb-true}
+use Rattle.std.proofs.Common.{zero-le, not-suc-le-zero, add-one, arith, sym, ap, ap₂, ◌∙◌, subst, length-set, get_or-set_same, get_or-set_other, ext_get_or, below_more, ltb-true, ltb-false, eqb-true}
 use Rattle.std.proofs.lemmas.List.{set-get_or}
 use Rattle.std.proofs.Math.Nat.{sub-zero}
 use Rattle.std.proofs.lemmas.Bool.{not-true, not-false}

@@ -1,14 +1,13 @@
 -- Laws of the first place of a list whose entry passes: what std's `position` gives, told in the words of the definitions.
-use Rattle.std.specs.Prelude.{ℕ, zero, suc, ◌+◌, ◌≤◌, ◌<◌, ◌≡◌, refl, Bool, cond, not, List, [], ◌∷◌, Option, Some, None, unwrap_or, eqb, ltb, length, get_or, reverse, ◌-◌}
+use Rattle.std.specs.Prelude.{ℕ, zero, suc, ◌+◌, ◌≤◌, ◌<◌, ◌≡◌, refl, Bool, cond, List, [], ◌∷◌, Option, Some, None, unwrap_or, eqb, ltb, length, get_or, reverse, ◌-◌}
 use Rattle.std.specs.List.{position_or_len}
-use Rattle.std.proofs.Common.{zero-le, arith, sym, ap, ap₂, ◌∙◌, ltb-false}
+use Rattle.std.proofs.Common.{zero-le, arith, ap, ◌∙◌, ltb-false}
 use Rattle.std.proofs.lemmas.List.{length-reverse, get_or-reverse}
 use Rattle.model.specs.Rows.{keep, span}
 use Rattle.model.specs.Listing.{first_place, group_by}
 use Rattle.model.specs.Lent.{Inside}
 use Rattle.model.proofs.ColumnLaws.{get_or_inside}
 use Rattle.model.proofs.RowLaws.{by}
-use Rattle.model.proofs.NumberLaws.{le_or_lt}
 
 -- the first place that passes is none of those behind the list
 pub place_le : {A : Type 0} (test : A → Bool) (xs : List A) → position_or_len test xs ≤ length xs
@@ -41,7 +40,7 @@ place_kept at a (suc n) =
 
 -- the group of k is the first place before k that has what k has
 pub place_group : (key : ℕ → ℕ) (k : ℕ) → first_place (λ p. eqb (key p) (key k)) (span 0 k) ≡ group_by key k
-place_group key k = 
+place_group key k =
     let z : 0 + k ≡ k = omega arith in
     let e = rw z at (place_kept (λ p. eqb (key p) (key k)) 0 k) in
     omega (arith, e)

@@ -21,10 +21,7 @@ fn rows_at(order: &[u16], ends: &[u32], state: &[u32], own: &mut [u16])
     let mut rest = order;
     for (r, row) in own.iter_mut().enumerate() {
         let (mine, others) = rest.split_at(ends[r] as usize);
-        *row = mine
-            .get(state[r] as usize)
-            .copied()
-            .unwrap_or(rows::NONE);
+        *row = mine.get(state[r] as usize).copied().unwrap_or(rows::NONE);
         rest = others;
     }
 }

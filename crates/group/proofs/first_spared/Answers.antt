@@ -1,5 +1,5 @@
 -- The rows are looked at one by one, so the answer is the first that is spared.
-use Rattle.std.proofs.Common.{rules, tests, arith, ℕ, ◌≡◌, ◌<◌, Bool, not, ltb, min, length, sym, ap, ◌∙◌}
+use Rattle.std.proofs.Common.{rules, tests, arith, ℕ, ◌≡◌, ◌<◌, Bool, not, ltb, length, ap, ◌∙◌}
 use Rattle.std.specs.List.{zip}
 use Rattle.std.proofs.lemmas.Iterator.{YieldsList-from_slice, YieldsList-from_zip}
 use Rattle.std.proofs.lemmas.Iterator.Adapters.{serves_from_places}
@@ -16,10 +16,10 @@ position-requires-clause-callable c =
     let group = c.args.group.now in
     let med = c.args.med.now in
     serves_from_places (YieldsList-from_zip {s = c.zip.result} (YieldsList-from_slice group cc) (YieldsList-from_slice med cc)) (λ x q r. search rules) (λ x i l e.
-        let long : i < length group = omega (arith, length-zip group med) in
-        let here = ap (λ (p : ℕ × ℕ). p.0) (e ∙ get_or-zip group med i (x.0.now, x.1.now) long (omega arith)) in
-        let inside : x.0.now < length c.args.low.now = omega (arith, here, get_or_inside group i x.0.now 0 long, c.requires.2 i long) in
-        search rules)
+    let long : i < length group = omega (arith, length-zip group med) in
+    let here = ap (λ (p : ℕ × ℕ). p.0) (e ∙ get_or-zip group med i (x.0.now, x.1.now) long (omega arith)) in
+    let inside : x.0.now < length c.args.low.now = omega (arith, here, get_or_inside group i x.0.now 0 long, c.requires.2 i long) in
+    search rules)
 
 pub returns : goal.returns
 returns c =

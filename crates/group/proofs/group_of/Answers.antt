@@ -1,5 +1,5 @@
 -- The rows before place k are looked at one by one, so the answer is the first place there that has what k has.
-use Rattle.std.proofs.Common.{rules, tests, arith, eqb, length, take, ℕ, ◌≡◌, ◌<◌, Bool, get_or-take, length-take-le, sym, ap, ◌∙◌}
+use Rattle.std.proofs.Common.{rules, tests, arith, eqb, length, take, ℕ, ◌≡◌, ◌<◌, Bool, get_or-take, length-take-le, ap, ◌∙◌}
 use Rattle.std.proofs.lemmas.Iterator.{YieldsList-from_slice}
 use Rattle.std.proofs.lemmas.Iterator.Adapters.{serves_from_places}
 use Rattle.std.proofs.lemmas.Iterator.Search.{position_from_yields_List}

@@ -1,7 +1,6 @@
 -- A group is no later than its place, so it fits.
-use Rattle.std.proofs.Common.{arith, sym, ap, ◌∙◌, length}
+use Rattle.std.proofs.Common.{arith}
 use Rattle.model.specs.Rows.{column}
-use Rattle.model.specs.Listing.{group_by}
 use Rattle.model.proofs.ListingLaws.{group_le}
 use Rattle.model.proofs.LoopLaws.{stored_end}
 use Rattle.group.proofs.groups.Goals as goal

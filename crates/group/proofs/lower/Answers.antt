@@ -1,10 +1,10 @@
 -- A row lowers its bucket's number to its key, if that is less.
-use Rattle.std.proofs.Common.{rules, arith, ℕ, ◌≡◌, ◌<◌, length, sym, ap, ap₂, min, ◌∙◌}
+use Rattle.std.proofs.Common.{arith, length, sym, ap, min, ◌∙◌}
 use Rattle.std.proofs.lemmas.List.{length_push}
 use Rattle.std.proofs.lemmas.Slice.Zip.{zip_turn, zip_end}
-use Rattle.model.specs.Rows.{span, column}
+use Rattle.model.specs.Rows.{column}
 use Rattle.model.proofs.RowLaws.{length_span}
-use Rattle.model.proofs.ListLaws.{Lowers, lowers_next, lowers_end, span_at}
+use Rattle.model.proofs.ListLaws.{lowers_next, lowers_end, span_at}
 use Rattle.group.proofs.lower.Goals as goal
 
 pub loop-b-preserved : goal.loop-b-preserved

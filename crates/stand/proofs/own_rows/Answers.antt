@@ -2,7 +2,7 @@
 use Rattle.std.proofs.Common.{arith, true, false, Bool, ℕ, List, ◌++◌, ◌≡◌, ◌≤◌, length, take, drop, length-take-le, length-append, replicate, subst, sym, ap, ap₂, ◌∙◌}
 use Rattle.std.proofs.lemmas.List.{length-replicate}
 use Rattle.rows.specs.Lent.{columns_in}
-use Rattle.model.specs.Lent.{Inside, Front}
+use Rattle.model.specs.Lent.{Front}
 use Rattle.model.specs.Columns.{most_routers, past_keys, Columns, Fits}
 use Rattle.model.specs.Listing.{contenders_in, counts_in, gathered, groups_in, rest_in, Listed, Ready}
 use Rattle.model.proofs.ListLaws.{front_is, front_wider, front_inside, packed_front}

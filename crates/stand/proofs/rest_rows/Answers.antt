@@ -1,5 +1,5 @@
 -- The columns are gathered by place, and rounds on them lead to the rows.
-use Rattle.std.proofs.Common.{arith, true, false, Bool, ℕ, List, length, sym, ap, ap₂, ◌∙◌, ◌≡◌}
+use Rattle.std.proofs.Common.{arith, true, false, Bool, ℕ, List, length, ap, ap₂, ◌∙◌, ◌≡◌}
 use Rattle.model.specs.Rows.{table, column}
 use Rattle.model.specs.Listing.{group_by, counts_in, gathered, groups_in, stands_at, settled_by, rest_in}
 use Rattle.model.proofs.RowLaws.{table_length}
@@ -18,8 +18,7 @@ rest_is late n router asn med order {ends} {meds} {group} ends_are meds_are grou
 
 pub ends-requires : goal.ends-requires
 ends-requires c =
-    let order = c.args.order.now in
-    (
+    let order = c.args.order.now in (
       c.requires.inside.0,
       omega (arith, c.requires.ready.rows, table_length (length order) (group_by (λ k. column c.args.routes.now.asn.now (column order k)))),
       c.requires.owned,

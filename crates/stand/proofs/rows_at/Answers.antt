@@ -1,4 +1,4 @@
-use Rattle.std.proofs.Common.{arith, rules, ℕ, List, ◌≡◌, ◌<◌, length, get_or, ap, sym, ◌∙◌}
+use Rattle.std.proofs.Common.{arith, rules, ℕ, List, ◌≡◌, ◌<◌, length, get_or, ap, ◌∙◌}
 use Rattle.model.specs.Rows.{column}
 use Rattle.model.specs.Decision.{none}
 use Rattle.model.proofs.LoopLaws.{stored, stored_next, stored_end}

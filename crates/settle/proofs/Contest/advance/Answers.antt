@@ -1,7 +1,5 @@
 -- The first place of a router's part that is spared is the first of its places.
-use Rattle.std.proofs.Common.{arith, refl, ◌<◌, ◌∙◌, ◌≡◌, ◌≤◌, ◌+◌, length, not, ltb}
-use Rattle.model.specs.Rows.{column}
-use Rattle.model.specs.Listing.{own_places, first_place}
+use Rattle.std.proofs.Common.{arith, refl, ◌<◌, ◌∙◌, length}
 use Rattle.model.proofs.LoopLaws.{moved, moved_next, moved_end}
 use Rattle.model.proofs.RoundLaws.{turn, turn_next, turn_room, slice_first}
 use Rattle.settle.proofs.Contest.advance.Goals as goal

@@ -1,5 +1,5 @@
 -- Rounds start where every router is at its first place.
-use Rattle.std.proofs.Common.{ℕ, List, length, replicate, sym, ap, ◌∙◌}
+use Rattle.std.proofs.Common.{ℕ, length, replicate, ap, ◌∙◌}
 use Rattle.model.specs.Rows.{column}
 use Rattle.model.specs.Decision.{beats_by}
 use Rattle.model.specs.Contest.{times}

@@ -1,5 +1,5 @@
 -- Rounds start where every router is past its end.
-use Rattle.std.proofs.Common.{refl, ℕ, List, length, sym, ap, ◌∙◌}
+use Rattle.std.proofs.Common.{refl, length, ap, ◌∙◌}
 use Rattle.model.specs.Rows.{column}
 use Rattle.model.specs.Decision.{beats_by}
 use Rattle.model.specs.Contest.{times}

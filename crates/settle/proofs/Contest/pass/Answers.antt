@@ -1,5 +1,5 @@
 -- A router's part of the columns up to its place is what it has passed.
-use Rattle.std.proofs.Common.{arith, rules}
+use Rattle.std.proofs.Common.{arith}
 use Rattle.model.proofs.RoundLaws.{passing, passing_next, passing_end, turn_room}
 use Rattle.settle.proofs.Contest.pass.Goals as goal
 

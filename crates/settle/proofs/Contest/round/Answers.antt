@@ -1,5 +1,5 @@
 -- The lowest MED of what is passed tells where each router goes, since no MED is above what the table starts with.
-use Rattle.std.proofs.Common.{arith, ℕ, List, eqb, length, ap, ◌∙◌}
+use Rattle.std.proofs.Common.{ℕ, List, eqb, length, ap, ◌∙◌}
 use Rattle.std.proofs.Math.ListN.{get_or-replicate}
 use Rattle.model.specs.Rows.{keep, column}
 use Rattle.model.specs.Contest.{least_or}
