@@ -1,8 +1,8 @@
 -- What the cursor's methods rest on: a record is judged by its opening, then by its values.
-use Prim.Native.Nat.{ℕ, suc, ◌+◌, ◌-◌, ◌/◌, ◌^◌, ◌≤◌, ◌<◌}
-use Rattle.std.proofs.Common.{add_assoc, div-one, arith, ◌∙◌, subst, ltb→lt, eqb→eq, lit≤, le-leb, lt-ltb, le-ltb}
+use Prim.Native.Nat.{ℕ, zero, suc, ◌+◌, ◌/◌, ◌^◌, ◌≤◌, ◌<◌}
+use Rattle.std.proofs.Common.{add-one, div-one, arith, ◌∙◌, subst, ltb→lt, eqb→eq, lit≤, le-leb, lt-ltb, le-ltb}
 use Rattle.std.proofs.Math.Decide.{dec_le}
-use Rattle.std.specs.Prelude.{◌≡◌, Bool, cond, not, ◌||◌, length, get_or, drop, leb, ltb, eqb, Result, Ok, Err}
+use Rattle.std.specs.Prelude.{◌≡◌, Bool, cond, not, ◌||◌, length, get_or, drop, leb, ltb, eqb, map, Result, Ok, Err}
 use Rattle.std.proofs.Math.Path.{refl, sym, ap, ap₂, fun_ext}
 use Rattle.std.proofs.Math.Bool.{true, false}
 use mathlib.Core.List.{List, [], ◌∷◌, ◌++◌}
@@ -13,11 +13,12 @@ use Rattle.refusal.specs.declared.Refusal.{Refusal}
 use Rattle.refusal.specs.declared.Refusal.TheVariants.{Cut, Kind, Place, Full, Field, Order, Twin}
 use Rattle.refusal.specs.declared.Refused.{Refused}
 use Rattle.snapshot.specs.Limits.{most_prefixes, most_in_prefix, most_routes}
-use Rattle.model.specs.Rows.{some}
+use Rattle.model.specs.Rows.{some, span}
+use Rattle.std.specs.List.{list_any, range_with_len}
 use Rattle.model.proofs.RowLaws.{table_length}
 use Rattle.snapshot.specs.Plain.{route_is}
 use Rattle.snapshot.specs.Ranges.{none, router_tests, prefix_tests, route_tests}
-use Rattle.snapshot.specs.Records.{Form, Forms, forms, of_kind, only, sum, size, known, count_form, router_form, distance_form, prefix_form, route_form, route_form_by, route_forms, end_form, form_at, values_at}
+use Rattle.snapshot.specs.Records.{Form, Forms, forms, of_kind, only, sum, size, known, count_form, router_form, distance_form, prefix_form, route_form_by, route_forms, end_form, form_at, values_at}
 use Rattle.snapshot.proofs.RecordsLaws.{of_routes}
 use Rattle.refusal.specs.Numbers.{Said, refuses}
 use Rattle.snapshot.specs.Format.{Snapshot, Check, ◌else◌, judged, Holds, count_checks, distance_checks, end_checks}
@@ -26,7 +27,7 @@ use Rattle.snapshot.proofs.ChecksLaws.{judged_append, judged_front}
 use Rattle.snapshot.proofs.PlaceLaws.{record_at}
 use Rattle.cursor.specs.declared.Cursor.{Cursor}
 use Rattle.cursor.specs.declared.Sofar.{Sofar}
-use Rattle.cursor.specs.Steps.{refused_at, finding, body_of, body_length, opening_checks, body_checks, opening_by, end_by, prefix_next, route_next, bits_behind, route_behind, route_at, Tells, took, route_said, judged_at, id_at, router_place, ids_at, due, prefix_faults, route_faults, route_faults_in}
+use Rattle.cursor.specs.Steps.{refused_at, finding, body_of, body_length, opening_checks, body_checks, opening_by, end_by, prefix_next, route_next, bits_behind, route_at, Tells, took, route_said, judged_at, id_at, router_place, ids_at, due, prefix_faults, route_faults, route_faults_in}
 
 -- ---- findings
 
@@ -86,14 +87,6 @@ module _ (k : ℕ) where
           → (cond b true (of_kind fs k (λ f. true) false) ≡ false) × (r ≡ Kind)
       go true e ih = absurd cc
       go false e ih = ih e
-
--- whether a body fits, as the code tests it
-pub room_left : (at n m : ℕ) → ltb n (m - at) ≡ ltb (at + n) m
-room_left at n m = go (dec_le (suc (at + n)) m)
-  where
-    go : Dec (at + n < m) → ltb n (m - at) ≡ ltb (at + n) m
-    go (yes h) = lt-ltb n (m - at) (omega arith) ∙ sym (lt-ltb (at + n) m h)
-    go (no h) = le-ltb n (m - at) (omega arith) ∙ sym (le-ltb (at + n) m (omega arith))
 
 module _ (bs : List ℕ) (at due : ℕ) (astray full : Bool) where
   -- the opening by the body that a table gives is the opening by the table
@@ -159,14 +152,6 @@ module _ {A : Type 0} (table : List Form) (bs : List ℕ) (at : ℕ) (fs : Forms
       ∙ judged_finding at (opening_checks table bs at f.kind astray full) stop (λ _. judged body refuse go)
       ∙ ap (λ (x : A). on_finding stop (λ _. x) (finding at (opening_checks table bs at f.kind astray full))) (judged_finding at body stop go)
 
-  -- it stops at its opening, or at its values, or it goes on
-  pub at_opening : {e : Refused} → Err e ≡ finding at (opening_checks table bs at f.kind astray full) → stop e ≡ judgement
-  at_opening e = ap (on_finding stop (λ _. on_finding stop go (finding at body))) e ∙ sym record_found
-
-  module _ (clear : Ok tt ≡ finding at (opening_checks table bs at f.kind astray full)) where
-    pub at_values : {x : Result (Unit {0}) Refused} → x ≡ finding at body → on_finding stop go x ≡ judgement
-    at_values e = ap (on_finding stop go) e ∙ ap (on_finding stop (λ _. on_finding stop go (finding at body))) clear ∙ sym record_found
-
 -- no check of PLACE or FULL
 pub no_extra : {A : Type 0} (stop : Refusal → A) (go : Unit {0} → A) → judged [] stop go ≡ judged (extra_checks false false) stop go
 unfolding judged
@@ -198,10 +183,6 @@ module _ {A : Type 0} (body : Result ℕ Refusal) (records : ℕ) (bs : List ℕ
 
 -- ---- the two forms of a route
 
--- the shorter is kind 5's
-pub route_least : (four : Bool) → size route_form ≤ size (route_form_by four)
-route_least = of_routes (λ f. size route_form ≤ size f) (lit≤ tt) (lit≤ tt)
-
 -- both bodies are in the table of kinds
 pub route_long : (four : Bool) → body_length forms (route_form_by four).kind ≡ sum (route_form_by four).widths
 route_long = of_routes (λ f. body_length forms f.kind ≡ sum f.widths) refl refl
@@ -226,24 +207,6 @@ asn_left bs at small false =
     let n = number_4 bs (at + 2) in
     let m = number_2 bs (at + 2) in
     omega arith
-
--- the fields behind the AS are the last twenty bytes of both
-pub fields_behind : (bs : List ℕ) (at : ℕ) (four : Bool)
-    → route_behind bs (at + (size (route_form_by four) - 20)) (number_at 1 bs (at + 1)) (get_or (values_at (route_form_by four) bs at) 1 0) ≡ route_at bs at four
-fields_behind bs at =
-    of_routes (λ f. let v = values_at f bs at in
-    route_behind bs (at + (size f - 20)) (number_at 1 bs (at + 1)) (get_or v 1 0)
-    ≡ record {
-      router = get_or v 0 0;
-      asn = get_or v 1 0;
-      preference = get_or v 2 0;
-      path = get_or v 3 0;
-      origin = get_or v 4 0;
-      mark = get_or v 5 0;
-      med = get_or v 6 0;
-      nid = get_or v 7 0;
-      peer = get_or v 8 0;
-    }) (simp add_assoc) (simp add_assoc)
 
 -- ---- what is known of those before a prefix or a route
 
@@ -354,3 +317,11 @@ module _ (bs : List ℕ) (at : ℕ) (answer : Said) where
   pub end_table_found : (table : List Form) (body : Result ℕ Refusal) (records : ℕ) → body_length table 6 ≡ 4 → body ≡ body_of table (get_or bs at 0)
       → judged_at at (end_by body records bs at) answer ≡ judged_at at (end_record table records (drop at bs)) answer
   end_table_found table body records long is = end_table body records bs at refusing (λ _. answer) table long is
+
+-- ---- a search by number
+
+-- over so many numbers from one on, and over the list of what they stand for
+pub any_of_table : (test : ℕ → Bool) (f : ℕ → ℕ) (from n : ℕ) → list_any (λ i. test (f i)) (range_with_len from n) ≡ some test (map f (span from n))
+any_of_table test f from zero = refl
+any_of_table test f from (suc n) =
+    ap (λ (b : Bool). test (f from) || b) (any_of_table test f (from + 1) n ∙ ap (λ (k : ℕ). some test (map f (span k n))) (add-one from))

@@ -97,13 +97,7 @@ fn twin(input: &[u8], first: usize, given: usize, id: u32) -> bool
     requires { router_place first given ≤ length input.now }
     ensures { result ≡ some (eqb id) (ids_at input.now first given) }
 {
-    let mut found = false;
-    let mut i = 0;
-    while (i < given) & !found {
-        found = id == id_at(input, first + snapshot::ROUTER_SIZE * i);
-        i += 1;
-    }
-    found
+    (0..given).any(|i| id == id_at(input, first + snapshot::ROUTER_SIZE * i))
 }
 
 // The id of the router record at a place.

@@ -23,7 +23,7 @@ use Rattle.snapshot.specs.Format.{Snapshot, Prefix, Pair, pairs, row, rows, reco
 use Rattle.snapshot.specs.Reading.{Answer, accepted, refused, unless, prefix_extra, prefix_values, prefix_record, route_extra, route_values, route_record, end_record, open_routes, add_route, with_prefixes, prefix_of, route_of, tail, items, distance_record, distances, router_record, routers, count_record, reading}
 use Rattle.snapshot.proofs.ChecksLaws.{judged_cases, passed, length_snoc, latest_snoc, routes_in_append, routes_in_add, length_add, some_prefix}
 use Rattle.snapshot.proofs.PlaceLaws.{kind_at, reading_count, routers_one, routers_none, distances_one, distances_none, items_one_prefix, items_one_route, items_last, tail_none, tail_some}
-use Rattle.snapshot.proofs.PairsLaws.{due_row, due_equal, due_other, due_row_end, due_end}
+use Rattle.snapshot.proofs.PairsLaws.{due_other}
 use Rattle.cursor.specs.declared.Cursor.{Cursor}
 use Rattle.cursor.specs.declared.Network.{Network}
 use Rattle.cursor.specs.declared.Sofar.{Sofar}
@@ -31,7 +31,7 @@ use Rattle.cursor.specs.Steps.{refused_at, begin, after, due, id_at, router_plac
 use Rattle.cursor.specs.StepsLaws.{prefix_told, route_told, route_says}
 use Rattle.cursor.specs.Theorems.{step_tells, prefix_tells, route_tells, end_tells}
 use Rattle.scan.specs.Theorems.{said_tells}
-use Rattle.scan.specs.Scan.{said, said_of, told, counts_so_far, answered, Routers, Distances, Rows, Row, Items}
+use Rattle.scan.specs.Scan.{said, said_of, told, counts_so_far, answered, Routers, Distances, Row, Items}
 use Rattle.snapshot.proofs.ReturnsLaws.{open_last}
 use Rattle.snapshot.specs.declared.Counts.{Counts}
 
@@ -200,33 +200,9 @@ module _ {bs : List ℕ} {n : ℕ} {c : Cursor} where
   due_is : {xs ys : List Pair} → xs ≡ ys → Distances bs n xs c → Distances bs n ys c
   due_is e s = subst (λ (l : List Pair). Distances bs n l c) e s
 
-  pub rows_start : Distances bs n (pairs n) c → Rows bs n 0 c
-  rows_start s = record { within = zero-le; left = due_is (ap (rows n 0) (let z : n ≡ n - 0 = omega arith in z)) s }
-
-  module _ {from : ℕ} (s : Rows bs n from c) where
-    pub rows_end : n ≤ from → Distances bs n [] c
-    rows_end m =
-        let l : from ≤ n = s.within in
-        let e : from ≡ n = omega arith in
-        due_is (ap (λ (f : ℕ). rows n f (n - f)) e ∙ due_end n) s.left
-
-    pub row_start : from < n → Row bs n from 0 c
-    row_start l = record {
-      known = l;
-      within = zero-le;
-      left = due_is (due_row n from l ∙ ap (λ (m : ℕ). row from 0 m ++ rows n (suc from) (n - suc from)) (let z : n ≡ n - 0 = omega arith in z)) s.left;
-    }
-
   module _ {from to : ℕ} (s : Row bs n from to c) where
     abbrev others : List Pair
     others = rows n (suc from) (n - suc from)
-
-    pub row_skip : to < n → from ≡ to → Row bs n from (to + 1) c
-    row_skip l e = record {
-      known = s.known;
-      within = omega arith;
-      left = due_is (ap (λ (l : List Pair). l ++ others) (due_equal n from to l e ∙ ap (λ (t : ℕ). row from t (n - t)) (sym (add-one to)))) s.left;
-    }
 
     row_due : to < n → (from ≡ to → ⊥) → Distances bs n (due from to ∷ (row from (suc to) (n - suc to) ++ others)) c
     row_due l e = due_is (ap (λ (l : List Pair). l ++ others) (due_other n from to l e)) s.left
@@ -245,18 +221,6 @@ module _ {bs : List ℕ} {n : ℕ} {c : Cursor} where
       left = subst (λ (t : ℕ). Distances bs n (row from t (n - t) ++ others) next) (sym (add-one to))
           (distances_next (due from to) (row from (suc to) (n - suc to) ++ others) (row_due l e) is);
     }
-
-    pub row_end : n ≤ to → Rows bs n (from + 1) c
-    row_end m =
-        let l : to ≤ n = s.within in
-        let k : from < n = s.known in
-        let e : to ≡ n = omega arith in
-        record {
-          within = omega arith;
-          left = due_is
-              (ap (λ (t : ℕ). row from t (n - t) ++ others) e ∙ ap (λ (l : List Pair). l ++ others) (due_row_end n from)
-              ∙ ap (λ (f : ℕ). rows n f (n - f)) (sym (add-one from))) s.left;
-        }
 
 -- ---- what is known of the prefixes and routes read so far
 

@@ -1,5 +1,5 @@
 -- What one pass over a policy file rests on: the code's tests are those of each entry, and how the pass goes on behind a record.
-use Rattle.std.specs.Prelude.{ℕ, suc, ◌+◌, ◌≤◌, ◌<◌, ◌≡◌, refl, ◌≢◌, Bool, true, false, not, ◌&&◌, ◌||◌, List, [], ◌∷◌, ◌++◌, length, get_or, drop, T, leb, ltb, eqb, Result, Ok, Err}
+use Rattle.std.specs.Prelude.{ℕ, suc, ◌+◌, ◌≤◌, ◌<◌, ◌≡◌, refl, Bool, true, false, not, ◌&&◌, ◌||◌, List, [], ◌∷◌, ◌++◌, length, get_or, drop, T, leb, ltb, eqb, Result, Ok, Err}
 use Rattle.std.proofs.Math.Decide.{dec_le}
 use Rattle.std.proofs.Common.{arith, sym, ap₂, ◌∙◌, subst, drop_of_length-le, drop-cons, ltb→lt, eq-eqb, ne_eqb, lt-ltb, le-ltb}
 use Rattle.std.proofs.Math.Path.{ap}
@@ -25,19 +25,6 @@ use Rattle.policy.proofs.AcceptsLaws.{length_on}
 use Rattle.policy.proofs.PlaceLaws.{records_one, latest_last, last_snoc, last_on, records_session, records_clause, records_zero}
 use Rattle.sessions.specs.declared.Latest.{Latest}
 use Rattle.sessions.specs.Sessions.{said_of, astray_of, full_of, session_faults, faults_of, more_session, more_of, next_of, Tells, Reads, Known, Agrees, Listed, listed, Other, Entered}
-
--- ---- by kind
-
--- the body of a kind that is known
-pub at_kind : (bs : List ℕ) (at : ℕ) {kind n : ℕ} → kind ≡ n → at + body_length policy_forms kind < length bs → at + body_length policy_forms n < length bs
-at_kind bs at e h = subst (λ (n : ℕ). at + body_length policy_forms n < length bs) e h
-
-module _ (bs : List ℕ) (at : ℕ) (k : Latest) {kind : ℕ} (no1 : kind ≢ 1) where
-  pub no_faults : kind ≢ 2 → kind ≢ 3 → Ok tt ≡ finding at (faults_of kind k bs at)
-  no_faults no2 no3 = simp (ne_eqb kind 1 no1, ne_eqb kind 2 no2, ne_eqb kind 3 no3)
-
-  pub next_clause : kind ≢ 5 → more_of k (k.clauses + 1) ≡ next_of kind k bs at
-  next_clause no5 = simp (ne_eqb kind 1 no1, ne_eqb kind 5 no5)
 
 -- ---- each entry
 
