@@ -6,7 +6,7 @@ use Rattle.refusal.specs.declared.Refusal.TheVariants.{Cut, Kind, Place, Full, F
 use Rattle.refusal.specs.declared.Refused.{Refused}
 use Rattle.refusal.specs.Numbers.{Said, refuses, gives, said_by}
 use Rattle.snapshot.specs.declared.Route.{Route}
-use Rattle.model.specs.Rows.{table}
+use Rattle.model.specs.Rows.{some, table}
 use Rattle.model.specs.Decision as model
 use Rattle.snapshot.specs.Ranges.{none, prefix_tests, route_tests, rises, rises_route}
 use Rattle.snapshot.specs.Records.{Form, forms, of_kind, known, sum, size, only, router_form, prefix_form, route_forms, four_byte, route_form_by, end_form, values_at}
@@ -121,6 +121,10 @@ router_place first i = first + size router_form * i
 abbrev pub ids_at : List ℕ → ℕ → ℕ → List ℕ
 ids_at bs first n = table n (λ i. id_at bs (router_place first i))
 
+-- whether an id is one of these
+unfoldable pub given_before : ℕ → List ℕ → Bool
+given_before id ids = some (eqb id) ids
+
 -- the prefix of the record at a place
 abbrev pub network_at : List ℕ → ℕ → Network
 network_at bs at = let v = values_at prefix_form bs at in record { address = get_or v 0 0; bits = get_or v 1 0 }
@@ -182,7 +186,7 @@ pub record Tells (s : Snapshot) (k : Sofar) : Type 0 where
   pub beyond : (r : model.Route)
       → latest (λ q. rises_route q r) (open_routes s.prefixes) ≡ not (late_behind k.inside k.router k.peer r.router r.peer)
 
--- ---- the answers in document 01's numbers
+-- ---- the answers in the project's numbers
 
 -- a record was taken: the place of the next cursor and its number of records, then what the record says
 abbrev pub took : Cursor → List ℕ → Said

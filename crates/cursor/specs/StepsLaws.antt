@@ -27,7 +27,7 @@ use Rattle.snapshot.proofs.ChecksLaws.{judged_append, judged_front}
 use Rattle.snapshot.proofs.PlaceLaws.{record_at}
 use Rattle.cursor.specs.declared.Cursor.{Cursor}
 use Rattle.cursor.specs.declared.Sofar.{Sofar}
-use Rattle.cursor.specs.Steps.{refused_at, finding, body_of, body_length, opening_checks, body_checks, opening_by, end_by, prefix_next, route_next, bits_behind, route_at, Tells, took, route_said, judged_at, id_at, router_place, ids_at, due, prefix_faults, route_faults, route_faults_in}
+use Rattle.cursor.specs.Steps.{refused_at, finding, body_of, body_length, opening_checks, body_checks, opening_by, end_by, prefix_next, route_next, bits_behind, route_at, Tells, took, route_said, judged_at, id_at, given_before, router_place, ids_at, due, prefix_faults, route_faults, route_faults_in}
 
 -- ---- findings
 
@@ -259,7 +259,7 @@ abbrev pub router_faults : ℕ → List ℕ → ℕ → ℕ → ℕ → List Che
 router_faults routers ids given index id =
     (none (router_tests routers index id) else Field)
     ∷ (eqb index given else Order)
-    ∷ (not (some (eqb id) ids) else Twin)
+    ∷ (not (given_before id ids) else Twin)
     ∷ []
 
 -- a record's answer: what its opening finds, then what its values find, then this
@@ -278,7 +278,7 @@ module _ (bs : List ℕ) (at : ℕ) (answer : Said) where
 
   pub router_found : (routers first given : ℕ) → judged_at at (router_record routers (ids_at bs first given) (drop at bs)) answer
       ≡ found (finding at (opening_checks forms bs at 2 false false)) (finding at (router_faults routers (ids_at bs first given) given (number_at 1 bs (at + 1)) (id_at bs at))) answer
-  unfolding router_record
+  unfolding router_record given_before
   router_found routers first given =
       record_found forms bs at (only router_form) [] false false (router_values routers (ids_at bs first given)) refusing (λ _. answer) refl (no_extra _)
       ∙ ap (λ (n : ℕ). found (finding at (opening_checks forms bs at 2 false false)) (finding at (router_faults routers (ids_at bs first given) n (number_at 1 bs (at + 1)) (id_at bs at))) answer)

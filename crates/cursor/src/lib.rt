@@ -4,7 +4,6 @@
 #![tactic(auto)]
 
 ghost use Rattle.std.specs.Prelude.{◌≡◌, cond, [], ◌∷◌, ◌+◌, ◌<◌, ◌≤◌, eqb, length, get_or, drop};
-ghost use Rattle.model.specs.Rows.{some};
 ghost use Rattle.snapshot.specs.Limits.{most_prefixes, most_in_prefix, most_routes};
 ghost use Rattle.snapshot.specs.Plain.{route_is};
 ghost use Rattle.snapshot.specs.Records.{forms, count_form, router_form, distance_form, prefix_form, route_form_by, route_forms, size, form_at, values_at};
@@ -25,10 +24,10 @@ ghost use Rattle.cursor.specs.Steps.{
   prefix_next,
   route_next,
   id_at,
+  given_before,
   router_place,
   ids_at,
   network_at,
-  nothing,
   more_prefix,
   more_route,
   bits_behind,
@@ -50,14 +49,14 @@ use snapshot::Route;
 const BEHIND_ASN: usize = 20;
 
 // A place between records, and how many records stand before it.
-#[derive(Clone, Copy)]
+#[derive(Clone, Copy, Default)]
 pub struct Cursor {
     pub at: usize,
     pub records: usize,
 }
 
 // What the prefixes and routes read so far say about the next: how many there are, the latest prefix, and the latest route in it.
-#[derive(Clone, Copy)]
+#[derive(Clone, Copy, Default)]
 pub struct Sofar {
     pub routers: u32,
     pub prefixes: u32,
@@ -95,7 +94,7 @@ fn body_length(kind: u8) -> Result<usize, Refusal>
 // Whether an id is one of the first `given` ones, which are read where they stand in the input.
 fn twin(input: &[u8], first: usize, given: usize, id: u32) -> bool
     requires { router_place first given ≤ length input.now }
-    ensures { result ≡ some (eqb id) (ids_at input.now first given) }
+    ensures { result ≡ given_before id (ids_at input.now first given) }
 {
     (0..given).any(|i| id == id_at(input, first + snapshot::ROUTER_SIZE * i))
 }
@@ -175,22 +174,6 @@ pub fn kind_at(input: &[u8], at: usize) -> u8
 }
 
 impl Sofar {
-    // Before the first prefix.
-    pub fn nothing(routers: u32) -> Sofar
-        ensures { result ≡ nothing routers }
-    {
-        Sofar {
-            routers,
-            prefixes: 0,
-            routes: 0,
-            inside: 0,
-            address: 0,
-            bits: 0,
-            router: 0,
-            peer: 0,
-        }
-    }
-
     // With one more prefix, which has no routes yet.
     pub fn with_prefix(self, p: Network) -> Sofar
         requires { self.prefixes < most_prefixes }

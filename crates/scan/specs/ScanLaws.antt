@@ -87,24 +87,27 @@ module _ (bs : List ℕ) where
   abbrev count_at : ℕ
   count_at = get_or (values_at count_form bs 0) 0 0
 
-  abbrev count_said : Result (Cursor × ℕ) Refused → Type 0
-  count_said x = step_said x ≡ judged_at 0 (count_record (drop 0 bs)) (took (after begin count_form) (count_at ∷ []))
+  abbrev count_said : Cursor → Result (Cursor × ℕ) Refused → Type 0
+  count_said b x = step_said x ≡ judged_at b.at (count_record (drop b.at bs)) (took (after b count_form) (values_at count_form bs b.at))
 
-  pub count_stop : {q : Refused} → count_said (Err q) → reading bs ≡ refused q.refusal q.place
-  count_stop e = reading_count bs ∙ record_stop (λ n. n ∷ []) step_tells (count_record bs) 0 (after begin count_form) count_at _ e
+  module _ {b : Cursor} (start : begin ≡ b) where
+    pub count_stop : {q : Refused} → count_said b (Err q) → reading bs ≡ refused q.refusal q.place
+    count_stop {q} e =
+        reading_count bs
+        ∙ record_stop (λ n. n ∷ []) step_tells (count_record bs) 0 (after begin count_form) count_at _ (subst (λ (b : Cursor). count_said b (Err q)) (sym start) e)
 
-  pub count_next : {c : Cursor} {n : ℕ} → count_said (Ok (c, n)) → Routers bs n c.at 0 c
-  unfolding count_record
-  count_next {c} {n} e =
-      let (h, at, is, go) = record_taken (λ n. n ∷ []) step_tells (count_record bs) 0 (after begin count_form) count_at
-      (λ _. routers count_at count_at [] (size count_form) (drop (size count_form) bs)) e in
-      record {
-        within = zero-le;
-        place = omega arith;
-        same = rw (at, is) (reading_count bs ∙ go ∙ ap (λ (m : ℕ). routers count_at m [] (size count_form) (drop (size count_form) bs)) (let z : count_at ≡ count_at - 0 = omega arith in z));
-        records = rw at refl;
-        low = rw at (omega arith);
-      }
+    pub count_next : {c : Cursor} {n : ℕ} → count_said b (Ok (c, n)) → Routers bs n c.at 0 c
+    unfolding count_record
+    count_next {c} {n} e =
+        let (h, at, is, go) = record_taken (λ n. n ∷ []) step_tells (count_record bs) 0 (after begin count_form) count_at
+        (λ _. routers count_at count_at [] (size count_form) (drop (size count_form) bs)) (subst (λ (b : Cursor). count_said b (Ok (c, n))) (sym start) e) in
+        record {
+          within = zero-le;
+          place = omega arith;
+          same = rw (at, is) (reading_count bs ∙ go ∙ ap (λ (m : ℕ). routers count_at m [] (size count_form) (drop (size count_form) bs)) (let z : count_at ≡ count_at - 0 = omega arith in z));
+          records = rw at refl;
+          low = rw at (omega arith);
+        }
 
 -- ---- the routers
 

@@ -11,12 +11,11 @@ use refusal::Refused;
 use snapshot::Counts;
 
 // The routers: each id is compared with those before it, which are read again where they stand.
-fn routers(c: Cursor, input: &[u8], n: u32) -> Result<Cursor, Refused>
+fn routers(mut c: Cursor, input: &[u8], n: u32) -> Result<Cursor, Refused>
     requires { Routers input.now n c.at 0 c }
     ensures { Went input.now (Distances input.now n (pairs n)) result }
 {
     let first = c.at;
-    let mut c = c;
     for given in 0..n as usize {
         let (next, _) = c.router(input, n, first, given)?;
         c = next;
@@ -25,11 +24,10 @@ fn routers(c: Cursor, input: &[u8], n: u32) -> Result<Cursor, Refused>
 }
 
 // The distances from one router to the others.
-fn row(c: Cursor, input: &[u8], n: u32, from: u32) -> Result<Cursor, Refused>
+fn row(mut c: Cursor, input: &[u8], n: u32, from: u32) -> Result<Cursor, Refused>
     requires { (from < n) × Rows input.now n from c }
     ensures { Went input.now (Rows input.now n (from + 1)) result }
 {
-    let mut c = c;
     for to in 0..n {
         if from == to {
             continue;
@@ -40,11 +38,10 @@ fn row(c: Cursor, input: &[u8], n: u32, from: u32) -> Result<Cursor, Refused>
     Ok(c)
 }
 
-fn distances(c: Cursor, input: &[u8], n: u32) -> Result<Cursor, Refused>
+fn distances(mut c: Cursor, input: &[u8], n: u32) -> Result<Cursor, Refused>
     requires { Distances input.now n (pairs n) c }
     ensures { Went input.now (Distances input.now n []) result }
 {
-    let mut c = c;
     for from in 0..n {
         c = row(c, input, n, from)?;
     }
@@ -70,12 +67,10 @@ fn one_item(c: Cursor, input: &[u8], k: Sofar) -> Result<Option<(Cursor, Sofar)>
 }
 
 // The prefixes and their routes, to the end of the input.
-fn items(c: Cursor, input: &[u8], k: Sofar) -> Result<Counts, Refused>
+fn items(mut c: Cursor, input: &[u8], mut k: Sofar) -> Result<Counts, Refused>
     requires { Items input.now c k }
     ensures { result ≡ told (reading input.now) }
 {
-    let mut c = c;
-    let mut k = k;
     while let Some((next, more)) = one_item(c, input, k)? {
         c = next;
         k = more;
@@ -91,9 +86,12 @@ fn items(c: Cursor, input: &[u8], k: Sofar) -> Result<Counts, Refused>
 pub fn judge(input: &[u8]) -> Result<Counts, Refused>
     ensures { said result ≡ said_of (reading input.now) }
 {
-    let begin = Cursor { at: 0, records: 0 };
-    let (c, n) = begin.count(input)?;
+    let (c, n) = Cursor::default().count(input)?;
     let c = routers(c, input, n)?;
     let c = distances(c, input, n)?;
-    items(c, input, Sofar::nothing(n))
+    let nothing = Sofar {
+        routers: n,
+        ..Default::default()
+    };
+    items(c, input, nothing)
 }

@@ -48,6 +48,10 @@ faults_of kind k bs at =
     (cond (eqb kind 2) ((none (prefix_tests (number_at 4 bs (at + 1)) (number_at 1 bs (at + 5))) else Field) ∷ [])
     (cond (eqb kind 3) ((none (clause_asn_tests (number_at 4 bs (at + 1))) else Field) ∷ []) []))
 
+-- what to know before the first record
+abbrev pub unread : Latest
+unread = record { sessions = 0; router = 0; peer = 0; bare = true; clauses = 0 }
+
 -- what to know with one more session
 abbrev pub more_session : Latest → ℕ → ℕ → Latest
 more_session k router peer = record { sessions = k.sessions + 1; router = router; peer = peer; bare = true; clauses = 0 }

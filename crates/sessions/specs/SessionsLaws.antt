@@ -17,14 +17,14 @@ use Rattle.snapshot.specs.Format.{Check, ◌else◌, judged, Holds, latest}
 use Rattle.snapshot.specs.Reading.{AnswerOf, refused, unless, either, tail, end_record}
 use Rattle.snapshot.proofs.ChecksLaws.{length_snoc}
 use Rattle.cursor.specs.declared.Cursor.{Cursor}
-use Rattle.cursor.specs.Steps.{refused_at, finding, body_of, body_length, opening_checks, end_by, behind, judged_at, ending}
+use Rattle.cursor.specs.Steps.{begin, refused_at, finding, body_of, body_length, opening_checks, end_by, behind, judged_at, ending}
 use Rattle.cursor.specs.StepsLaws.{on_finding, finding_holds, holds_finding, judged_finding, opened, ltb_leb, extra_checks, record_found, end_table_found}
 use Rattle.policy.specs.Policy.{Clause, Session, Policy, most_sessions, most_clauses, policy_forms, exact_form, direct_form, any_form, clause_checks, session_checks, records_in}
 use Rattle.policy.specs.Reading.{last, with_clause, with_zero, bare, on_latest, Entry, session_entry, clause_entry, zero_entry, exact_clause, direct_clause, any_clause, entries, among, entry_record, records_from, reading}
 use Rattle.policy.proofs.AcceptsLaws.{length_on}
 use Rattle.policy.proofs.PlaceLaws.{records_one, latest_last, last_snoc, last_on, records_session, records_clause, records_zero}
 use Rattle.sessions.specs.declared.Latest.{Latest}
-use Rattle.sessions.specs.Sessions.{said_of, astray_of, full_of, session_faults, faults_of, more_session, more_of, next_of, Tells, Reads, Known, Agrees, Listed, listed, Other, Entered}
+use Rattle.sessions.specs.Sessions.{unread, said_of, astray_of, full_of, session_faults, faults_of, more_session, more_of, next_of, Tells, Reads, Known, Agrees, Listed, listed, Other, Entered}
 
 -- ---- each entry
 
@@ -322,7 +322,7 @@ end_said_lem {bs} {c} {kind} {body} reads is o given =
 
 -- ---- at the start
 
-pub known_start : (bs : List ℕ) → Known bs (record { at = 0; records = 0 }) (record { sessions = 0; router = 0; peer = 0; bare = true; clauses = 0 })
+pub known_start : (bs : List ℕ) → Known bs begin unread
 known_start bs = record {
   reads = record { policy = []; same = refl; count = refl; low = omega arith };
   tells = record { sessions = refl; router = refl; peer = refl; bare = refl; clauses = refl; few = omega arith; short = omega arith };

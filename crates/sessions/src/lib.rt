@@ -12,7 +12,7 @@ use refusal::{Refusal, Refused};
 
 // What was read so far says about the next record: the number of sessions, and of the latest its router, its peer address, whether
 // nothing but its name was read, and the number of its clauses.
-#[derive(Clone, Copy)]
+#[derive(Clone, Copy, Default)]
 struct Latest {
     sessions: u32,
     router: u32,
@@ -36,66 +36,74 @@ fn body_length(kind: u8) -> Result<usize, Refusal>
     }
 }
 
-// The checks of a record before its values. PLACE: no session before it, or a kind 5 not right behind its session. FULL: a 65th
-// session, or a 33rd clause.
-fn opening(c: Cursor, input: &[u8], kind: u8, k: Latest) -> Result<(), Refused>
-    requires { get_or input.now c.at 0 ≡ kind }
-    ensures { result ≡ finding c.at (opening_checks policy_forms input.now c.at kind (astray_of kind k) (full_of kind k)) }
-{
-    let astray = (kind != 1) & ((k.sessions == 0) | ((kind == 5) & !k.bare));
-    let full = ((kind == 1) & (policy::MOST_SESSIONS <= k.sessions))
-        | ((kind != 1) & (kind != 5) & (policy::MOST_CLAUSES <= k.clauses));
-    c.opens(input, body_length(kind), kind, astray, full)
-}
-
-// A session's peer address is not 0, and it rises above the latest session, by router, then peer address. Before the first both are 0.
-fn session_faults(c: Cursor, k: Latest, router: u32, peer: u32) -> Result<(), Refused>
-    ensures { result ≡ finding c.at (session_faults k router peer) }
-{
-    let order = !snapshot::late(k.router, k.peer, router, peer);
-    c.demand(peer != 0, Refusal::Field)?;
-    c.demand(order, Refusal::Order)
-}
-
-// The checks of a record's values, by its kind.
-fn faults(c: Cursor, input: &[u8], kind: u8, k: Latest) -> Result<(), Refused>
-    requires { c.at + body_length policy_forms kind < length input.now }
-    ensures { result ≡ finding c.at (faults_of kind k input.now c.at) }
-{
-    let at = c.at;
-    match kind {
-        1 => session_faults(c, k, wire::get8(input, at + 1), wire::get32(input, at + 2)),
-        2 => {
-            let bad = snapshot::prefix_bad(wire::get32(input, at + 1), wire::get8(input, at + 5));
-            c.demand(!bad, Refusal::Field)
-        }
-        3 => {
-            let bad = policy::clause_asn_bad(wire::get32(input, at + 1));
-            c.demand(!bad, Refusal::Field)
-        }
-        _ => Ok(()),
+impl Latest {
+    // The checks of a record before its values. PLACE: no session before it, or a kind 5 not right behind its session. FULL: a 65th
+    // session, or a 33rd clause.
+    fn opening(self, c: Cursor, input: &[u8], kind: u8) -> Result<(), Refused>
+        requires { get_or input.now c.at 0 ≡ kind }
+        ensures { result ≡ finding c.at (opening_checks policy_forms input.now c.at kind (astray_of kind self) (full_of kind self)) }
+    {
+        let astray = (kind != 1) & ((self.sessions == 0) | ((kind == 5) & !self.bare));
+        let full = ((kind == 1) & (policy::MOST_SESSIONS <= self.sessions))
+            | ((kind != 1) & (kind != 5) & (policy::MOST_CLAUSES <= self.clauses));
+        c.opens(input, body_length(kind), kind, astray, full)
     }
-}
 
-// What is kept behind a record, by its kind.
-fn next(input: &[u8], at: usize, kind: u8, k: Latest) -> Latest
-    requires { (at + body_length policy_forms kind < length input.now) × (k.sessions ≤ most_sessions) × (k.clauses ≤ most_clauses) }
-    ensures { result ≡ next_of kind k input.now at }
-{
-    match kind {
-        1 => Latest {
-            sessions: k.sessions + 1,
-            router: wire::get8(input, at + 1),
-            peer: wire::get32(input, at + 2),
-            bare: true,
-            clauses: 0,
-        },
-        5 => Latest { bare: false, ..k },
-        _ => Latest {
-            bare: false,
-            clauses: k.clauses + 1,
-            ..k
-        },
+    // A session's peer address is not 0, and it rises above the latest session, by router, then peer address. Before the first both are 0.
+    fn session_faults(self, c: Cursor, router: u32, peer: u32) -> Result<(), Refused>
+        ensures { result ≡ finding c.at (session_faults self router peer) }
+    {
+        let order = !snapshot::late(self.router, self.peer, router, peer);
+        c.demand(peer != 0, Refusal::Field)?;
+        c.demand(order, Refusal::Order)
+    }
+
+    // The checks of a record's values, by its kind.
+    fn faults(self, c: Cursor, input: &[u8], kind: u8) -> Result<(), Refused>
+        requires { c.at + body_length policy_forms kind < length input.now }
+        ensures { result ≡ finding c.at (faults_of kind self input.now c.at) }
+    {
+        let at = c.at;
+        match kind {
+            1 => self.session_faults(c, wire::get8(input, at + 1), wire::get32(input, at + 2)),
+            2 => {
+                let bad = snapshot::prefix_bad(
+                    wire::get32(input, at + 1),
+                    wire::get8(input, at + 5),
+                );
+                c.demand(!bad, Refusal::Field)
+            }
+            3 => {
+                let bad = policy::clause_asn_bad(wire::get32(input, at + 1));
+                c.demand(!bad, Refusal::Field)
+            }
+            _ => Ok(()),
+        }
+    }
+
+    // What is kept behind a record, by its kind.
+    fn next(self, input: &[u8], at: usize, kind: u8) -> Latest
+        requires { (at + body_length policy_forms kind < length input.now) × (self.sessions ≤ most_sessions) × (self.clauses ≤ most_clauses) }
+        ensures { result ≡ next_of kind self input.now at }
+    {
+        match kind {
+            1 => Latest {
+                sessions: self.sessions + 1,
+                router: wire::get8(input, at + 1),
+                peer: wire::get32(input, at + 2),
+                bare: true,
+                clauses: 0,
+            },
+            5 => Latest {
+                bare: false,
+                ..self
+            },
+            _ => Latest {
+                bare: false,
+                clauses: self.clauses + 1,
+                ..self
+            },
+        }
     }
 }
 
@@ -110,9 +118,9 @@ fn entry(
     requires { Known input.now c k × Listed kind size × (get_or input.now c.at 0 ≡ kind) }
     ensures { Entered input.now c result }
 {
-    opening(c, input, kind, k)?;
-    faults(c, input, kind, k)?;
-    Ok((c.past(size), next(input, c.at, kind, k)))
+    k.opening(c, input, kind)?;
+    k.faults(c, input, kind)?;
+    Ok((c.past(size), k.next(input, c.at, kind)))
 }
 
 // One record, with which the next follows; whatever is none of an entry must be the end.
@@ -138,13 +146,10 @@ fn one_record(c: Cursor, input: &[u8], k: Latest) -> Result<Option<(Cursor, Late
 pub fn judge(input: &[u8]) -> Result<(), Refused>
     ensures { said result ≡ said_of (reading input.now) }
 {
-    let mut c = Cursor { at: 0, records: 0 };
+    let mut c = Cursor::default();
     let mut k = Latest {
-        sessions: 0,
-        router: 0,
-        peer: 0,
         bare: true,
-        clauses: 0,
+        ..Default::default()
     };
     while let Some((next, more)) = one_record(c, input, k)? {
         c = next;
