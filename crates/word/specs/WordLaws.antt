@@ -1,6 +1,6 @@
 -- The word of differing routers: how a loop makes it, and that its ones are as many as the routers.
 use Rattle.std.specs.Prelude.{ℕ, zero, suc, ◌+◌, ◌*◌, ◌≤◌, ◌<◌, ◌^◌, ◌%◌, ◌≡◌, refl, Bool, true, false, cond, List, ◌∷◌, length}
-use Rattle.std.proofs.Common.{pow-suc, one-mul, zero-mul, mul_comm, mul_assoc, add-mul, add-one, arith, sym, ap, ◌∙◌, lit<, pow_mono}
+use Rattle.std.proofs.Common.{pow-suc, one-mul, zero-mul, mul_comm, mul_assoc, add-mul, add-one, arith, sym, ap, ◌∙◌, lit<}
 use Rattle.std.specs.Int.Count.{ones}
 use Rattle.std.proofs.lemmas.Nat.{ones_cat}
 use Rattle.model.specs.Rows.{keep, span}
@@ -22,10 +22,6 @@ module _ {test : ℕ → Bool} {n : ℕ} where
   module _ {i bits : ℕ} (s : Marked test n i bits) where
     pub marked_end : n ≤ i → bits ≡ word (keep test (span 0 n))
     marked_end l = let e = walk_end s.at l in omega arith
-
-    -- the next bit does not run over
-    pub marked_room : i < 64 → bits + (1 * 2 ^ i) % 2 ^ 64 < 2 ^ 64
-    marked_room h = rw (shifted i h) (omega (arith, s.low, pow_mono {i = i} {j = 63} (omega arith)))
 
     module _ {b : Bool} (l : i < n) (e : b ≡ test i) where
       pub marked_off : b ≡ false → Marked test n (i + 1) bits
