@@ -8,7 +8,7 @@ ghost use Rattle.model.specs.Lent.{Inside, Front, Packed, after_two};
 ghost use Rattle.model.specs.Columns.{most_routers, most_rows, choice_of, distance_in, Placed};
 ghost use Rattle.rows.specs.Lent.{columns_in};
 
-use rows::Mesh;
+use rows::{Mesh, Routes};
 
 // Whether the route q is available to r: it is r's own, or its owner holds it.
 fn offered(router: &[u32], held: &[u16], q: usize, r: u32) -> bool
@@ -31,13 +31,13 @@ fn available(router: &[u32], held: &[u16], r: u32, rows: &mut [u16]) -> usize
 }
 
 // 1. The highest local preference. 2. The shortest AS path. 3. The lowest origin (0 IGP, 1 EGP, 2 incomplete).
-pub fn preferred(preference: &[u32], path: &[u32], origin: &[u32], rows: &mut [u16]) -> usize
-    requires { Inside (length preference.now) rows.old × Inside (length path.now) rows.old × Inside (length origin.now) rows.old }
-    ensures { Packed result (after_two (column preference.now) (column path.now) rows.old) rows.new (keep_least (column origin.now) (keep_least (column path.now) (keep_greatest (column preference.now) rows.old))) }
+pub fn preferred(routes: &Routes<'_>, rows: &mut [u16]) -> usize
+    requires { Inside (length routes.now.preference.now) rows.old × Inside (length routes.now.path.now) rows.old × Inside (length routes.now.origin.now) rows.old }
+    ensures { Packed result (after_two (column routes.now.preference.now) (column routes.now.path.now) rows.old) rows.new (keep_least (column routes.now.origin.now) (keep_least (column routes.now.path.now) (keep_greatest (column routes.now.preference.now) rows.old))) }
 {
-    let high = rows::keep_highest(rows, |q| preference[q]);
-    let short = rows::keep_lowest(&mut rows[..high], |q| path[q]);
-    rows::keep_lowest(&mut rows[..short], |q| origin[q])
+    let high = rows::keep_highest(rows, |q| routes.preference[q]);
+    let short = rows::keep_lowest(&mut rows[..high], |q| routes.path[q]);
+    rows::keep_lowest(&mut rows[..short], |q| routes.origin[q])
 }
 
 // Whether the row p has the same neighbour AS as q and a lower MED.
@@ -132,12 +132,7 @@ pub fn choose(mesh: &Mesh<'_>, held: &[u16], r: u32) -> u16
     let mut left = rows::unlisted();
     let rows = &mut list[..routes.router.len()];
     let offers = available(routes.router, held, r, rows);
-    let kept = preferred(
-        routes.preference,
-        routes.path,
-        routes.origin,
-        &mut rows[..offers],
-    );
+    let kept = preferred(routes, &mut rows[..offers]);
     let free = unbeaten(routes.asn, routes.med, &rows[..kept], &mut left);
     let own = own_if_any(routes.router, r, &mut left[..free]);
     let near = nearest(mesh, r, &mut left[..own]);

@@ -1,5 +1,5 @@
-// The rows of a prefix that are still kept, as a list of row numbers, and what every step does with them: find the least or the
-// greatest key of a listed row, and pack the rows with that key into the front of the list.
+// The routes of a prefix, and its rows that are still kept, as a list of row numbers. Every step keeps the listed rows that pass a
+// test, or those with the least or the greatest key, and packs them into the front of the list.
 #![tactic(auto)]
 
 ghost use Rattle.std.specs.Prelude.{ℕ, Bool, ◌≡◌, ◌-◌, ◌≤◌, ◌<◌, length, get_or, replicate, eqb};
@@ -77,28 +77,13 @@ pub fn past() -> [u32; MOST_ROWS]
     [PAST_KEYS; MOST_ROWS]
 }
 
-// The row listed at place i.
-pub fn at(rows: &[u16], i: usize) -> usize
-    requires { i < length rows.now }
-    ensures { result ≡ column rows.now i }
-{
-    rows[i] as usize
-}
-
-// Whether the row listed at place i has the key `value`.
-pub fn has_key(key: &[u32], rows: &[u16], i: usize, value: u32) -> bool
-    requires { (i < length rows.now) × (column rows.now i < length key.now) }
-    ensures { result ≡ eqb (column key.now (column rows.now i)) value }
-{
-    key[rows[i] as usize] == value
-}
-
 // Of the listed rows, those that pass a test: packed into the front of the list, so many.
 pub fn keep<F: Fn(usize) -> bool>(rows: &mut [u16], test: F) -> usize
     requires { Each (F.pre test) rows.old }
     ensures { (t : ℕ → Bool) → Gives (F.post test) t rows.old → Packed result rows.old rows.new (keep t rows.old) }
 {
     let mut n = 0;
+    // By index: the list is packed in place, so it is written while it is read.
     for i in 0..rows.len() {
         let q = rows[i];
         if test(q as usize) {
