@@ -21,10 +21,9 @@ pub fn fill_ids(input: &[u8], n: usize, ids: &mut [u32])
     requires { Spans input.now n × (most_routers ≤ length ids.old) }
     ensures { ids.new ≡ sets ids.old 0 (ids_in input.now n) }
 {
-    let mut i = 0;
-    while i < n {
-        ids[i] = cursor::id_at(input, snapshot::COUNT_SIZE + snapshot::ROUTER_SIZE * i);
-        i += 1;
+    let front = &mut ids[..n];
+    for (i, id) in front.iter_mut().enumerate() {
+        *id = cursor::id_at(input, snapshot::COUNT_SIZE + snapshot::ROUTER_SIZE * i);
     }
 }
 
@@ -61,25 +60,25 @@ fn distance_in(input: &[u8], n: usize, from: usize, to: usize) -> u32
     )
 }
 
+// Puts the distances from one router to each into the front of its row.
+fn fill_row(input: &[u8], from: usize, row: &mut [u32])
+    requires { Spans input.now (length row.old) × (from < length row.old) }
+    ensures { row.new ≡ table (length row.old) (distance_in input.now (length row.old) from) }
+{
+    let n = row.len();
+    for (to, distance) in row.iter_mut().enumerate() {
+        *distance = distance_in(input, n, from, to);
+    }
+}
+
 // Puts the distances of n routers into a table, from times the stride, plus to; equal pairs hold 0.
 pub fn fill_distances(input: &[u8], n: usize, distances: &mut [u32])
     requires { Spans input.now n × (room_distances ≤ length distances.old) }
     ensures { distances.new ≡ table (length distances.old) (entry_in input.now n distances.old) }
 {
-    let stride = snapshot::STRIDE;
-    let end = n * stride;
-    let mut k = 0;
-    while k < end {
-        let next = k + 1;
-        let from = k / stride;
-        let to = k % stride;
-        let unused = n <= to;
-        if unused {
-            k = next;
-            continue;
-        }
-        distances[k] = distance_in(input, n, from, to);
-        k = next;
+    for from in 0..n {
+        let first = from * snapshot::STRIDE;
+        fill_row(input, from, &mut distances[first..first + n]);
     }
 }
 
