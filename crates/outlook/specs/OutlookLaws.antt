@@ -1,6 +1,6 @@
 -- What the code decides on lent tables is early and late of the snapshot that they hold.
-use Rattle.std.specs.Prelude.{ℕ, ◌+◌, ◌-◌, ◌≤◌, ◌<◌, ◌≡◌, refl, Bool, true, false, ◌||◌, not, List, ◌++◌, map, length, get_or, drop, T, eqb, ltb, Ok}
-use Rattle.std.proofs.Common.{arith, sym, ap, ap₂, subst, ◌∙◌, inl, inr, true≢false, ltb-false, eqb-true, get_or-take}
+use Rattle.std.specs.Prelude.{ℕ, ◌+◌, ◌-◌, ◌≤◌, ◌<◌, ◌≡◌, refl, Bool, true, false, ◌||◌, not, List, ◌++◌, map, length, get_or, drop, T, eqb, ltb, Result, Ok, Err}
+use Rattle.std.proofs.Common.{arith, sym, ap, ap₂, subst, ◌∙◌, inl, inr, ⊎_elim, true≢false, ltb-false, eqb-true, get_or-take}
 use Rattle.std.proofs.Math.Path.{fun_ext}
 use Rattle.std.proofs.lemmas.List.{length-map}
 use Rattle.std.proofs.Math.ListN.{get_or-eq_default}
@@ -15,7 +15,11 @@ use Rattle.snapshot.proofs.TablesLaws.{has_room}
 use Rattle.snapshot.specs.Tables.{Tables, short, Room, Held, routes_of, mesh}
 use Rattle.snapshot.proofs.ChecksLaws.{routers_few}
 use Rattle.tables.specs.Theorems.{held_ids, held_distance, held_count, held_fits, held_column, routes_few, absent_zero, sound}
-use Rattle.tables.specs.Judging.{Holding}
+use Rattle.tables.specs.Judging.{Holding, Verdicts, numbered}
+use Rattle.tables.specs.Theorems as Judged
+use Rattle.refusal.specs.declared.Refusal.{Refusal}
+use Rattle.refusal.specs.declared.Refused.{Refused}
+use Rattle.refusal.specs.Numbers.{refuses}
 use Rattle.model.specs.Rows.{keep, span, table, column, start}
 use Rattle.model.specs.Decision.{Route, Mesh, metric, choice}
 use Rattle.model.specs.Stability.{Sound, Between, available}
@@ -29,7 +33,7 @@ use Rattle.model.proofs.Theorems.{forecast, pair_determined}
 use Rattle.decide.specs.declared.Differing.{Differing}
 use Rattle.decide.specs.Decide.{differing_of, Decided}
 use Rattle.rows.specs.Lent.{cut}
-use Rattle.outlook.specs.Outlook.{Forecasts, given, said, short_of, whole, Shown, Part}
+use Rattle.outlook.specs.Outlook.{Forecasts, room, no_snapshot, given, said, short_of, whole, Shown, Part}
 
 -- ---- room
 
@@ -79,6 +83,18 @@ module _ (t : Tables) (early late : List ℕ) where
 
     pub late_room : most_routers ≤ length late
     late_room = ltb-false _ _ (each_of (any_of (short t)) short_early short_late enough).2
+
+-- what examining refuses is refused, at place 0
+pub refused_by : (counts : Counts) (t : Tables) (p : ℕ) (early late : List ℕ) {v : Result Unit Refusal} {w : Result Unit Refused} {r : Refused}
+    → Judged.Placed v w → w ≡ Err r → (short_early t early late || short_late t early late) ≡ false → Verdicts counts t (numbered v)
+    → Forecasts counts t p early late (refuses r.refusal r.place) early late
+refused_by counts t p earlies lates placed e long judged =
+    let (q, same, at) = Judged.placed_err placed e in
+    subst (λ (r : Refused). Forecasts counts t p earlies lates (refuses r.refusal r.place) earlies lates) (sym at) (⊎_elim
+    (λ k. subst (λ (q : Refusal). Forecasts counts t p earlies lates (refuses q 0) earlies lates) (sym k.0) (room (table_short t earlies lates k.1)))
+    (λ k. subst (λ (q : Refusal). Forecasts counts t p earlies lates (refuses q 0) earlies lates) (sym k.0)
+    (no_snapshot (none_short t earlies lates long k.1) (λ snapshot valid held. k.2 (record { snapshot = snapshot; valid = valid; held = held }))))
+    (Judged.verdict_refused judged q (ap numbered same)))
 
 -- ---- the forecast of lent columns
 

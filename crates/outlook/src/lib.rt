@@ -86,9 +86,7 @@ pub fn forecast(
             place: 0,
         });
     }
-    if let Err(refusal) = tables::examine(counts, tables) {
-        return Err(Refused { refusal, place: 0 });
-    }
+    tables::examine(counts, tables).map_err(|refusal| Refused { refusal, place: 0 })?;
     if counts.prefixes <= prefix {
         return Err(Refused {
             refusal: Refusal::NoPrefix,
