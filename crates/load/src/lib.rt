@@ -8,6 +8,7 @@ ghost use Rattle.rows.specs.Lent.{columns_in};
 ghost use Rattle.load.specs.Load.{place_from, front, lent_rows, WideRows, Asked, KeepsMesh, Lends, Loaded, Forecast};
 
 use decide::Differing;
+use pour::Place;
 use rows::{Mesh, Routes};
 use snapshot::LentColumns;
 
@@ -106,7 +107,8 @@ fn load(input: &[u8], n: usize, prefix: usize, lent: &mut LentMesh<'_>) -> usize
         nid: lent.nid,
         peer: lent.peer,
     };
-    pour::fill_routes(input, routes, 0, rows::MOST_ROWS, &mut columns).row
+    let first = Place { row: 0, at: routes };
+    pour::fill_routes(input, first, rows::MOST_ROWS, &mut columns).row
 }
 
 // The early and the late row of each router for the prefix of a number, and the routers that differ. There is one router for each

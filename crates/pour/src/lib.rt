@@ -9,38 +9,32 @@ ghost use Rattle.fill.specs.Fill.{Spans, routes_from, behind_routes, prefixes_fr
 
 use snapshot::{LentColumns, LentTables};
 
-// Where routes end: the row and the place behind the last.
+// Where a route is to be put, and where it stands in the input.
 #[derive(Clone, Copy)]
-pub struct End {
+pub struct Place {
     pub row: usize,
     pub at: usize,
 }
 
-// Puts the routes that stand from a place on into the columns, from a row on and while there is room; returns where they end.
-pub fn fill_routes(
-    input: &[u8],
-    at: usize,
-    row: usize,
-    room: usize,
-    rows: &mut LentColumns<'_>,
-) -> End
-    requires { (at ≤ length input.now) × (row ≤ room) × Wide room (lent_columns rows.old) }
-    ensures filled { (result.row ≡ row + length (routes_from (room - row) input.now at)) × (result.at ≡ behind_routes (room - row) input.now at)
-        × (lent_columns rows.new ≡ put_routes (lent_columns rows.old) row (routes_from (room - row) input.now at)) }
+// Puts the routes that stand from a place on into the columns, while there is room; returns the place behind the last.
+pub fn fill_routes(input: &[u8], from: Place, room: usize, rows: &mut LentColumns<'_>) -> Place
+    requires { (from.at ≤ length input.now) × (from.row ≤ room) × Wide room (lent_columns rows.old) }
+    ensures filled { (result.row ≡ from.row + length (routes_from (room - from.row) input.now from.at)) × (result.at ≡ behind_routes (room - from.row) input.now from.at)
+        × (lent_columns rows.new ≡ put_routes (lent_columns rows.old) from.row (routes_from (room - from.row) input.now from.at)) }
     ensures kept { KeepsColumns rows.old rows.new }
 {
-    let mut at = at;
-    for row in row..room {
+    let mut at = from.at;
+    for row in from.row..room {
         let kind = cursor::kind_at(input, at);
         if !fill::is_route(input, at, kind) {
-            return End { row, at };
+            return Place { row, at };
         }
         let four = kind == 7;
         let r = cursor::route_at(input, at, four);
         at += snapshot::route_size(four);
         fill::put_route(row, r, rows);
     }
-    End { row: room, at }
+    Place { row: room, at }
 }
 
 // Puts so many prefixes that stand from a place on, each with its routes, into the front of the columns.
@@ -51,19 +45,17 @@ fn fill_prefixes(input: &[u8], at: usize, prefixes: usize, tables: &mut LentTabl
     ensures kept { Keeps tables.old tables.new }
 {
     let room = snapshot::MOST_ROUTES as usize;
-    let mut at = at;
-    let mut row = 0;
+    let mut next = Place { row: 0, at };
     for p in 0..prefixes {
-        let first = at + snapshot::PREFIX_SIZE;
+        let first = next.at + snapshot::PREFIX_SIZE;
         if input.len() < first {
             return;
         }
-        let network = cursor::network_at(input, at);
-        let end = fill_routes(input, first, row, room, &mut tables.rows);
-        let inside = end.row - row;
+        let network = cursor::network_at(input, next.at);
+        let end = fill_routes(input, Place { at: first, ..next }, room, &mut tables.rows);
+        let inside = end.row - next.row;
         fill::put_prefix(p, network, inside as u32, tables);
-        at = end.at;
-        row = end.row;
+        next = end;
     }
 }
 

@@ -5,6 +5,6 @@ use Rattle.pour.proofs.fill_routes.Given as goal
 
 abbrev pub invariant-loop-row : goal.invariant-loop-row
 invariant-loop-row l = record {
-  taken : Taken l.input l.room l.fn.at l.fn.row (lent_columns l.fn.rows) l.at l.row (lent_columns l.rows);
+  taken : Taken l.input l.room l.fn.from.at l.fn.from.row (lent_columns l.fn.rows) l.at l.row (lent_columns l.rows);
   kept : KeepsColumns l.fn.rows l.rows;
 }
