@@ -10,7 +10,6 @@ use Rattle.std.proofs.lemmas.Bool.{eqb-false}
 use Rattle.model.specs.Rows.{keep, some, span, greatest, keep_least, column}
 use Rattle.model.specs.Contest.{least_or}
 use Rattle.model.specs.Lent.{Inside, Front, Packed}
-use Rattle.model.specs.Listing.{first_place}
 use Rattle.model.proofs.RowLaws.{by, In, here, there, nowhere, in_cases, Agree, in_span, table_at, count_length, count_le, count_all}
 use Rattle.model.proofs.LeastLaws.{Picks, least_or_past, least_or_lower, least_or_min, keep_least_agree}
 use Rattle.model.proofs.LoopLaws.{Stored, stored_end}
@@ -261,25 +260,6 @@ module _ {bucket key : ℕ → ℕ} {rows low₀ : List ℕ} where
             rw (same, c) (least_or_min (key q) (column low k) key (keep (λ q. eqb (bucket q) k) rest)))
             (λ other. rw (other, get_or-set_other low p k v 0 (λ f. eqb-false p k other (sym f))))));
       })
-
--- ---- a search for the place of the first row that passes: no row before place i does
-pub record Leads (test : ℕ → Bool) (rows : List ℕ) (i : ℕ) : Type 0 where
-  pub at : Along (first_place test rows) (λ rest. i + first_place test rest) rows i
-
-module _ {test : ℕ → Bool} {rows : List ℕ} where
-  pub leads : Leads test rows 0
-  leads = record { at = along (omega arith) }
-
-  module _ {i : ℕ} (s : Leads test rows i) where
-    pub leads_end : length rows ≤ i → length rows ≡ first_place test rows
-    leads_end l = omega (arith, along_end s.at l, s.at.within)
-
-    module _ {b : Bool} (l : i < length rows) (e : b ≡ test (column rows i)) where
-      pub leads_off : b ≡ false → Leads test rows (i + 1)
-      leads_off h = record { at = along_next s.at l (λ rest. rw (sym e ∙ h) (omega arith)) }
-
-      pub leads_hit : b ≡ true → i ≡ first_place test rows
-      leads_hit h = sym (along_hit s.at l (λ rest. rw (sym e ∙ h) (omega arith)))
 
 -- ---- the greatest key
 pub record Higher (key : ℕ → ℕ) (rows : List ℕ) (i high : ℕ) : Type 0 where

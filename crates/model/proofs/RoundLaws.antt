@@ -132,13 +132,6 @@ slice_at from n xs i l =
     let z : 0 + i ≡ i = omega arith in
     rw (e, z) (get_or-take n (drop from xs) i 0 l ∙ get_or-drop from xs i 0)
 
--- where every entry of a column is below a number, so is every entry of a part
-pub slice_within : (from n most : ℕ) (xs : List ℕ) → from + n ≤ length xs → ((q : ℕ) → q < length xs → column xs q < most) → (q : ℕ) → q < length (slice from n xs) → column (slice from n xs) q < most
-slice_within from n most xs l f q m =
-    let k : q < n = omega (arith, slice_long from n xs l) in
-    let z : 0 + q ≡ q = omega arith in
-    omega (arith, f (from + q) (omega arith), ap (column (slice from n xs)) z, slice_at from n xs q k)
-
 -- what is found of numbers from a on is what is found of those from b on, where keys and tests agree
 shift_least : (past : ℕ) (key key' : ℕ → ℕ) (test test' : ℕ → Bool) (a b n : ℕ) → ((i : ℕ) → i < n → key (a + i) ≡ key' (b + i)) → ((i : ℕ) → i < n → test (a + i) ≡ test' (b + i))
     → least_or past key (keep test (span a n)) ≡ least_or past key' (keep test' (span b n))
