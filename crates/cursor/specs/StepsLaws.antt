@@ -1,12 +1,11 @@
 -- What the cursor's methods rest on: a record is judged by its opening, then by its values.
-use Prim.Native.Nat.{ℕ, zero, suc, ◌+◌, ◌/◌, ◌^◌, ◌≤◌, ◌<◌}
-use Rattle.std.proofs.Common.{add-one, div-one, arith, ◌∙◌, subst, ltb→lt, eqb→eq, lit≤, le-leb, lt-ltb, le-ltb}
-use Rattle.std.proofs.Math.Decide.{dec_le}
+use Prim.Native.Nat.{ℕ, zero, suc, ◌+◌, ◌/◌, ◌^◌, ◌<◌}
+use Rattle.std.proofs.Common.{add-one, div-one, arith, ◌∙◌, subst, ltb→lt, eqb→eq, lit≤}
 use Rattle.std.specs.Prelude.{◌≡◌, Bool, cond, not, ◌||◌, length, get_or, drop, leb, ltb, eqb, map, Result, Ok, Err}
 use Rattle.std.proofs.Math.Path.{refl, sym, ap, ap₂, fun_ext}
 use Rattle.std.proofs.Math.Bool.{true, false}
 use mathlib.Core.List.{List, [], ◌∷◌, ◌++◌}
-use Rattle.std.proofs.lemmas.Bool.{lt-leb}
+use Rattle.std.proofs.lemmas.Bool.Decides.{nat_tests}
 use Rattle.wire.specs.Numbers.{number_at}
 use Rattle.wire.specs.NumbersLaws.{number_2, number_4}
 use Rattle.refusal.specs.declared.Refusal.{Refusal}
@@ -110,11 +109,7 @@ module _ (bs : List ℕ) (at due : ℕ) (astray full : Bool) where
       subst (λ (n : ℕ). at + n < length bs) (let d : m ≡ n = cc in d) (ltb→lt _ _ h.1.1.1.1.0)
 
 lt_as_le : (a b n : ℕ) → leb (a + suc b) n ≡ ltb (a + b) n
-lt_as_le a b n = go (dec_le (a + suc b) n)
-  where
-    go : Dec (a + suc b ≤ n) → leb (a + suc b) n ≡ ltb (a + b) n
-    go (yes h) = le-leb (a + suc b) n h ∙ sym (lt-ltb (a + b) n (omega arith))
-    go (no h) = lt-leb (a + suc b) n (omega arith) ∙ sym (le-ltb (a + b) n (omega arith))
+lt_as_le a b n = grind (arith, nat_tests)
 
 -- PLACE and FULL as the code has them: two tests
 abbrev pub extra_checks : Bool → Bool → List Check
@@ -211,11 +206,7 @@ asn_left bs at small false =
 -- ---- what is known of those before a prefix or a route
 
 pub ltb_leb : (a b : ℕ) → ltb a b ≡ not (leb b a)
-ltb_leb a b = go (dec_le b a)
-  where
-    go : Dec (b ≤ a) → ltb a b ≡ not (leb b a)
-    go (yes h) = le-ltb a b h ∙ ap not (sym (le-leb b a h))
-    go (no h) = lt-ltb a b (omega arith) ∙ ap not (sym (lt-leb b a (omega arith)))
+ltb_leb a b = grind (arith, nat_tests)
 
 module _ {A : Type 0} (k : Sofar) (stop : Refusal → A) (go : Unit {0} → A) where
   pub prefix_room_lem : judged (prefix_room k.prefixes) stop go ≡ judged (extra_checks false (leb most_prefixes k.prefixes)) stop go

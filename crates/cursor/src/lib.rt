@@ -3,11 +3,10 @@
 // this record habit: they go by the body that the file's own table of kinds gives.
 #![tactic(auto)]
 
-ghost use Rattle.std.specs.Prelude.{◌≡◌, cond, [], ◌∷◌, ◌+◌, ◌<◌, ◌≤◌, eqb, length, get_or, drop};
+ghost use Rattle.std.specs.Prelude.{◌≡◌, cond, [], ◌∷◌, ◌+◌, ◌<◌, ◌≤◌, length, get_or, drop};
 ghost use Rattle.snapshot.specs.Limits.{most_prefixes, most_in_prefix, most_routes};
 ghost use Rattle.snapshot.specs.Plain.{route_is};
 ghost use Rattle.snapshot.specs.Records.{forms, count_form, router_form, distance_form, prefix_form, route_form_by, route_forms, size, form_at, values_at};
-ghost use Rattle.snapshot.specs.Format.{count_checks, router_checks, distance_checks, end_checks};
 ghost use Rattle.snapshot.specs.Reading.{count_record, router_record, distance_record, end_record};
 ghost use Rattle.cursor.specs.Steps.{
   finding,
@@ -19,7 +18,6 @@ ghost use Rattle.cursor.specs.Steps.{
   behind,
   after,
   due,
-  prefix_faults,
   route_faults_in,
   prefix_next,
   route_next,

@@ -1,13 +1,14 @@
 -- How the first pass goes on: one law for each turn of its loops and each way out of them.
 use Prim.Native.Nat.{ℕ, suc, ◌+◌, ◌-◌, ◌≤◌, ◌<◌, zero-le}
-use Rattle.std.proofs.Common.{add-one, sym, ◌∙◌, length-drop, leb→le, ne_eqb, lt-ltb, le-ltb}
+use Rattle.std.proofs.Common.{add-one, sym, ◌∙◌, length-drop, leb→le, lt-ltb, le-ltb}
 use Rattle.std.proofs.Math.Decide.{dec_le}
 use native.Mathlib.Omega.{arith}
-use Rattle.std.specs.Prelude.{◌≡◌, refl, ◌≢◌, Bool, true, false, cond, not, ◌&&◌, get_or, drop, T, leb, eqb, Result, Ok, Err}
+use Rattle.std.specs.Prelude.{◌≡◌, refl, ◌≢◌, Bool, cond, not, get_or, drop, T, leb, eqb, Result, Ok, Err}
 use Rattle.std.proofs.Math.Path.{ap, subst}
 use mathlib.Core.List.{List, [], ◌∷◌, ◌++◌}
 use Rattle.std.proofs.Math.ListN.{length}
 use Rattle.std.proofs.Math.Dec.{ltb→lt}
+use Rattle.std.proofs.lemmas.Bool.Decides.{nat_tests}
 use Rattle.refusal.specs.declared.Refused.{Refused}
 use Rattle.refusal.specs.declared.Refusal.TheVariants.{Tail}
 use Rattle.refusal.specs.Numbers.{Said, refuses, gives}
@@ -48,10 +49,7 @@ said_is {r} bs e = said_tells r (told (reading bs)) (e ∙ sym (said_told (readi
 
 -- a record's body lies within the input
 within_body : (bs : List ℕ) (at : ℕ) (k : ℕ) → T (leb (suc k) (length (drop at bs))) → at + suc k ≤ length bs
-within_body bs at k t =
-    let h : suc k ≤ length (drop at bs) = leb→le (suc k) (length (drop at bs)) t in
-    let l = length-drop at bs in
-    omega (arith, h, l)
+within_body bs at k t = omega (arith, leb→le (suc k) (length (drop at bs)) t, length-drop at bs)
 
 -- ---- what the answer to a record says: of any type, where its numbers tell it
 
@@ -227,14 +225,9 @@ module _ {bs : List ℕ} {n : ℕ} {c : Cursor} where
 
 -- ---- what is known of the prefixes and routes read so far
 
-not_not : (b : Bool) → not (not b) ≡ b
-not_not true = refl
-not_not false = refl
-
 -- where there is one before, it is late where it does not rise
 late_some : (m a b x y : ℕ) → not (late_behind (m + 1) a b x y) ≡ rises a b x y
-late_some m a b x y =
-    ap (λ (z : Bool). not (not z && not (rises a b x y))) (ne_eqb (m + 1) 0 (let z : m + 1 ≡ 0 → ⊥ = λ e. omega arith in z)) ∙ not_not (rises a b x y)
+late_some m a b x y = grind (arith, nat_tests)
 
 open_add : (p : Prefix) (ps : List Prefix) (r : model.Route) → open_routes (add_route (p ∷ ps) r) ≡ open_routes (p ∷ ps) ++ (r ∷ [])
 open_add p [] r = refl

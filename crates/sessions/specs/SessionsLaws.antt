@@ -5,7 +5,7 @@ use Rattle.std.proofs.Common.{arith, sym, ap₂, ◌∙◌, subst, drop_of_lengt
 use Rattle.std.proofs.Math.Path.{ap}
 use Rattle.std.proofs.Math.Bool.{cond, and-false, or-false}
 use Rattle.std.proofs.Math.Dec.{eqb-suc-zero}
-use Rattle.std.proofs.lemmas.Bool.{eqb-false}
+use Rattle.std.proofs.lemmas.Bool.Decides.{nat_tests}
 use Rattle.wire.specs.Numbers.{number_at}
 use Rattle.refusal.specs.declared.Refusal.{Refusal}
 use Rattle.refusal.specs.declared.Refusal.TheVariants.{Place, Full, Field, Order, Tail}
@@ -30,13 +30,7 @@ use Rattle.sessions.specs.Sessions.{unread, said_of, astray_of, full_of, session
 
 -- a session with a peer address other than 0 rises above nobody
 above_nobody : (router peer : ℕ) → eqb peer 0 ≡ false → rises 0 0 router peer ≡ true
-above_nobody router peer e =
-    let some = eqb-false peer 0 e in
-    go (dec_le 1 router) (lt-ltb 0 peer (omega arith))
-  where
-    go : Dec (0 < router) → ltb 0 peer ≡ true → rises 0 0 router peer ≡ true
-    go (yes h) p = rw (lt-ltb 0 router h)
-    go (no h) p = let is : router ≡ 0 = omega arith in rw (is, p)
+above_nobody router peer e = grind (arith, nat_tests)
 
 module _ {policy : Policy} {k : Latest} (t : Tells policy k) where
   -- what a last check finds at a place
