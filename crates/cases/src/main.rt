@@ -3,7 +3,7 @@
 // bytes`; or `refused` with number and place.
 //
 // tests/cases makes the files, from texts in the notation of `second`. What the program has to print, its `stdout`, was written by hand
-// from document 01, and tests/cases holds it against what `second` says of the files.
+// from the rules, and tests/cases holds it against what `second` says of the files.
 #![tactic(auto)]
 
 ghost use Rattle.std.specs.Prelude.{◌≡◌, ◌++◌, suc, ◌+◌, ◌≤◌, length};
@@ -121,112 +121,140 @@ fn case(rt: &HostRuntime, name: &str)
     run(rt, name, snapshot::MOST_ROUTES as usize);
 }
 
-// The inputs of document 01: the sums on paper, then those to be run.
+// The inputs that the rules were given with: the sums on paper, then those to be run.
 fn document(rt: &HostRuntime) {
-    case(rt, "p1");
-    case(rt, "p2");
-    case(rt, "p3");
-    case(rt, "p4");
-    case(rt, "p5");
-    case(rt, "p6");
-    case(rt, "p7");
-    case(rt, "p8");
-    case(rt, "p9");
-    case(rt, "p10");
-    case(rt, "p11");
-    case(rt, "empty");
-    case(rt, "byte-1");
-    case(rt, "distance-16777215");
-    case(rt, "distance-16777216");
-    case(rt, "as-65534");
-    case(rt, "as-65535");
-    case(rt, "routes-256");
-    case(rt, "routes-257");
-    case(rt, "prefix-10.0.0.1-24");
+    for name in [
+        "p1",
+        "p2",
+        "p3",
+        "p4",
+        "p5",
+        "p6",
+        "p7",
+        "p8",
+        "p9",
+        "p10",
+        "p11",
+        "empty",
+        "byte-1",
+        "distance-16777215",
+        "distance-16777216",
+        "as-65534",
+        "as-65535",
+        "routes-256",
+        "routes-257",
+        "prefix-10.0.0.1-24",
+    ] {
+        case(rt, name);
+    }
 }
 
-// Document 02, request b: the neighbour AS at its borders, in both kinds, and both kinds below one prefix.
+// The neighbour AS at its borders, in both kinds, and both kinds below one prefix.
 fn neighbour_as(rt: &HostRuntime) {
-    case(rt, "as-1");
-    case(rt, "as-23455");
-    case(rt, "as-23456");
-    case(rt, "as-23457");
-    case(rt, "as-65536");
-    case(rt, "as-4294967294");
-    case(rt, "as-4294967295");
-    case(rt, "long-as-0");
-    case(rt, "long-as-1");
-    case(rt, "long-as-23456");
-    case(rt, "long-as-65534");
-    case(rt, "long-as-65535");
-    case(rt, "both-kinds");
-    case(rt, "short-then-long-falls");
-    case(rt, "long-then-short-falls");
-    case(rt, "long-cut-in-its-as");
-    case(rt, "long-cut-by-a-byte");
-    case(rt, "long-route-without-prefix");
-    case(rt, "routes-257-of-both-kinds");
+    for name in [
+        "as-1",
+        "as-23455",
+        "as-23456",
+        "as-23457",
+        "as-65536",
+        "as-4294967294",
+        "as-4294967295",
+        "long-as-0",
+        "long-as-1",
+        "long-as-23456",
+        "long-as-65534",
+        "long-as-65535",
+        "both-kinds",
+        "short-then-long-falls",
+        "long-then-short-falls",
+        "long-cut-in-its-as",
+        "long-cut-by-a-byte",
+        "long-route-without-prefix",
+        "routes-257-of-both-kinds",
+    ] {
+        case(rt, name);
+    }
 }
 
 // Snapshots with the least and the most of something.
 fn limits(rt: &HostRuntime) {
-    case(rt, "no-prefixes");
-    case(rt, "prefix-lengths");
-    case(rt, "no-routes-between");
-    case(rt, "meds");
-    case(rt, "least");
-    case(rt, "greatest");
-    case(rt, "greatest-long");
-    case(rt, "prefixes-64");
-    case(rt, "longest");
+    for name in [
+        "no-prefixes",
+        "prefix-lengths",
+        "no-routes-between",
+        "meds",
+        "least",
+        "greatest",
+        "greatest-long",
+        "prefixes-64",
+        "longest",
+    ] {
+        case(rt, name);
+    }
 }
 
 // CUT, KIND, PLACE.
 fn cut_kind_place(rt: &HostRuntime) {
-    case(rt, "p5-less-one");
-    case(rt, "p5-cut-in-a-route");
-    case(rt, "no-end");
-    case(rt, "kind-0");
-    case(rt, "kind-8");
-    case(rt, "kind-255");
-    case(rt, "end-first");
-    case(rt, "router-late");
-    case(rt, "route-without-prefix");
+    for name in [
+        "p5-less-one",
+        "p5-cut-in-a-route",
+        "no-end",
+        "kind-0",
+        "kind-8",
+        "kind-255",
+        "end-first",
+        "router-late",
+        "route-without-prefix",
+    ] {
+        case(rt, name);
+    }
 }
 
 // FIELD.
 fn field(rt: &HostRuntime) {
-    case(rt, "routers-0");
-    case(rt, "routers-65");
-    case(rt, "router-id-0");
-    case(rt, "prefix-33");
-    case(rt, "route-of-nobody");
-    case(rt, "as-0");
-    case(rt, "path-0");
-    case(rt, "origin-3");
-    case(rt, "mark-2");
-    case(rt, "med-without-mark");
-    case(rt, "neighbour-id-0");
-    case(rt, "peer-0");
+    for name in [
+        "routers-0",
+        "routers-65",
+        "router-id-0",
+        "prefix-33",
+        "route-of-nobody",
+        "as-0",
+        "path-0",
+        "origin-3",
+        "mark-2",
+        "med-without-mark",
+        "neighbour-id-0",
+        "peer-0",
+    ] {
+        case(rt, name);
+    }
 }
 
 // ORDER, TWIN, FULL.
 fn order_twin_full(rt: &HostRuntime) {
-    case(rt, "router-skipped");
-    case(rt, "equal-pair");
-    case(rt, "prefix-twice");
-    case(rt, "p5-route-moved");
-    case(rt, "twin-ids");
-    case(rt, "prefix-65");
-    case(rt, "routes-1025");
+    for name in [
+        "router-skipped",
+        "equal-pair",
+        "prefix-twice",
+        "p5-route-moved",
+        "twin-ids",
+        "prefix-65",
+        "routes-1025",
+    ] {
+        case(rt, name);
+    }
 }
 
 // COUNT, TAIL.
 fn count_tail(rt: &HostRuntime) {
-    case(rt, "p5-counts-16");
-    case(rt, "p5-routes-joined");
-    case(rt, "p5-and-one");
-    case(rt, "longest-and-one");
+    for name in [
+        "p5-counts-16",
+        "p5-routes-joined",
+        "p5-and-one",
+        "longest-and-one",
+    ] {
+        case(rt, name);
+    }
 }
 
 fn main(rt: HostRuntime) {

@@ -1,4 +1,4 @@
--- Demand 2's two round trips, stated of the promises of `read_snapshot` and `write_snapshot`: of whatever these answer and leave, as
+-- The two round trips, stated of the promises of `read_snapshot` and `write_snapshot`: of whatever these answer and leave, as
 -- long as each meets its promise.
 use Rattle.std.specs.Prelude.{ℕ, ◌≤◌, ◌≡◌, Bool, false, cond, List, length, take, T, Result, Ok, Err}
 use Rattle.std.proofs.Common.{arith, sym, ap, subst₂, ◌∙◌}
