@@ -142,7 +142,8 @@ fn one_record(c: Cursor, input: &[u8], k: Latest) -> Result<Option<(Cursor, Late
     }
 }
 
-// Judges a whole input: it is a policy file, or it earns a refusal.
+// Judges a whole input: it is a policy file, or it earns a refusal. The loop is that of scan's last section: one function for both, over a
+// closure, would need a trait that says what is known at a place, and be longer.
 pub fn judge(input: &[u8]) -> Result<(), Refused>
     ensures { said result ≡ said_of (reading input.now) }
 {
