@@ -3,7 +3,7 @@ use Rattle.std.specs.Prelude.{ℕ, ◌+◌, ◌≤◌, ◌<◌, ◌≡◌, refl,
 use Rattle.std.proofs.Common.{arith, sym, ap, ap₂, ◌∙◌, subst, append_assoc, append-nil, take_at, take_all, length-take, drop-drop}
 use Rattle.std.specs.List.{find}
 use Rattle.std.specs.Option.{option_map_or}
-use Rattle.std.proofs.lemmas.List.{map-append, length-map, take_more_set, drop-set-lt}
+use Rattle.std.proofs.lemmas.List.{map-append, length-map, take_more_set, drop-set-lt, take-append-le, take-append-drop, drop-append-le}
 use Rattle.policy.specs.Policy.{Clause, most_clauses}
 use Rattle.policy.specs.Rewriting.{usual, fits, preference_of, preferred}
 use Rattle.clauses.specs.declared.Clause as code
@@ -57,21 +57,35 @@ module _ {bs : List ℕ} {at₀ : ℕ} {cs₀ : List code.Clause} {n at : ℕ} {
             ∙ drop-drop 1 n cs₀;
       }
 
+-- at the end, with the entries behind those that a session's clauses may take
+module _ {bs : List ℕ} {at₀ : ℕ} (cs₀ : List code.Clause) {n at : ℕ} {cs : List code.Clause} (t : Taken bs at₀ (take most_clauses cs₀) n at cs)
+    (long : length cs ≡ length (take most_clauses cs₀)) (few : n ≤ length cs) where
+  pub taken_others : drop n (cs ++ drop most_clauses cs₀) ≡ drop n cs₀
+  taken_others =
+      drop-append-le n cs (drop most_clauses cs₀) few
+      ∙ ap (λ (xs : List code.Clause). xs ++ drop most_clauses cs₀) t.others
+      ∙ sym (drop-append-le n (take most_clauses cs₀) (drop most_clauses cs₀) (omega arith))
+      ∙ ap (drop n) (take-append-drop most_clauses cs₀)
+
+  front : map clause_of (take n (cs ++ drop most_clauses cs₀)) ≡ map clause_of (take n cs)
+  front = ap (map clause_of) (take-append-le n cs (drop most_clauses cs₀) few)
+
   -- no clause is left
-  pub taken_stop : n ≤ most_clauses → is_clause bs at ≡ false → map clause_of (take n cs) ≡ take most_clauses (clauses_from bs at₀)
-  taken_stop few e =
+  pub taken_stop : is_clause bs at ≡ false → map clause_of (take n (cs ++ drop most_clauses cs₀)) ≡ take most_clauses (clauses_from bs at₀)
+  taken_stop e =
       let done : List Clause = map clause_of (take n cs) in
       let whole : done ≡ clauses_from bs at₀ = sym (append-nil done) ∙ ap (λ (more : List Clause). done ++ more) (sym (clauses_as bs at e)) ∙ t.all in
-      sym (take_all most_clauses done (omega (arith, length-map (take n cs) clause_of, length-take n cs))) ∙ ap (take most_clauses) whole
+      front ∙ sym (take_all most_clauses done (omega (arith, length-map (take n cs) clause_of, length-take n cs, length-take most_clauses cs₀))) ∙ ap (take most_clauses) whole
 
   -- as many as a session may have
-  pub taken_full : n ≡ most_clauses → n ≤ length cs
-      → (map clause_of (take most_clauses cs) ≡ take most_clauses (clauses_from bs at₀)) × (drop most_clauses cs ≡ drop most_clauses cs₀)
-  taken_full full room =
+  pub taken_full : n ≡ most_clauses → (map clause_of (take most_clauses (cs ++ drop most_clauses cs₀)) ≡ take most_clauses (clauses_from bs at₀)) × (drop most_clauses (cs ++ drop most_clauses cs₀) ≡ drop most_clauses cs₀)
+  taken_full full =
       let done : List Clause = map clause_of (take n cs) in (
-        ap (λ (m : ℕ). map clause_of (take m cs)) (sym full)
-            ∙ sym (take_at done (clauses_from bs at) most_clauses (omega (arith, length-map (take n cs) clause_of, length-take n cs))) ∙ ap (take most_clauses) t.all,
-        subst (λ (m : ℕ). drop m cs ≡ drop m cs₀) full t.others,
+        ap (λ (m : ℕ). map clause_of (take m (cs ++ drop most_clauses cs₀))) (sym full)
+            ∙ front
+            ∙ sym (take_at done (clauses_from bs at) most_clauses (omega (arith, length-map (take n cs) clause_of, length-take n cs)))
+            ∙ ap (take most_clauses) t.all,
+        subst (λ (m : ℕ). drop m (cs ++ drop most_clauses cs₀) ≡ drop m cs₀) full taken_others,
       )
 
 -- ---- the first clause that fits

@@ -122,10 +122,6 @@ clause_written (exact address bits preference) = refl
 clause_written (direct asn preference) = refl
 clause_written (any preference) = refl
 
--- its kind is one of a clause
-pub clause_known : (bs : List ℕ) (at : ℕ) → is_clause bs at ≡ true → clause_kind (get_or bs at 0) ≡ true
-clause_known bs at e = (both (clause_kind (get_or bs at 0)) (leb (at + size_at bs at) (length bs)) e).0
-
 -- it stands there whole
 pub clause_whole : (bs : List ℕ) (at : ℕ) → is_clause bs at ≡ true → at + size_at bs at ≤ length bs
 clause_whole bs at e = leb-true _ _ (both (clause_kind (get_or bs at 0)) (leb (at + size_at bs at) (length bs)) e).1

@@ -108,11 +108,11 @@ pub fn take_apart(policy: &[u8], at: usize, clauses: &mut [Clause]) -> usize
     ensures others { drop result clauses.new ≡ drop result clauses.old }
 {
     let mut at = at;
-    for n in 0..MOST_CLAUSES {
+    for (n, room) in clauses[..MOST_CLAUSES].iter_mut().enumerate() {
         let Some(size) = clause_size(policy, at) else {
             return n;
         };
-        clauses[n] = clause_at(policy, at, size);
+        *room = clause_at(policy, at, size);
         at += size;
     }
     MOST_CLAUSES

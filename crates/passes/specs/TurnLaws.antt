@@ -13,7 +13,7 @@ use Rattle.clauses.specs.declared.Named.{Named}
 use Rattle.clauses.specs.Walking.{session_of, session_by, is_session, named_at, behind_clauses, sessions_from}
 use Rattle.clauses.specs.WalkingLaws.{sessions_step}
 use Rattle.passes.specs.declared.RewriteTables.{RewriteTables}
-use Rattle.passes.specs.Passes.{KeepsRewrite, of_row, altered, ruled_row, passed, passed_all, Long, Told}
+use Rattle.passes.specs.Passes.{KeepsRewrite, of_row, altered, ruled_row, passed, passed_all, Long}
 use Rattle.passes.specs.PassesLaws.{altered_none, altered_skip, altered_next, long_has, long_again, long_less}
 
 -- ---- what is lent stays the same
@@ -79,9 +79,6 @@ module _ {bs owner : List ℕ} {t : Tables} where
   left long = record { within = zero-le; same = refl; others = refl; long = long }
 
   module _ {at : ℕ} {u : Tables} (l : Left bs owner t at u) where
-    pub left_told : Told owner t → Told owner u
-    left_told told = subst (Told owner) (sym l.others) (record { below = told.below; addresses = told.addresses; lengths = told.lengths })
-
     -- the sessions from the place on, by whether one stands there
     left_as : {b : Bool} → is_session bs at ≡ b
         → passed_by owner t (cond b (session_by bs (named_at bs at) ∷ sessions_from bs (behind_clauses bs (named_at bs at).first)) []) u.rows ≡ passed_by owner t (sessions_from bs 0) t.rows

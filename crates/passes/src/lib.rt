@@ -157,7 +157,9 @@ fn rule(clauses: &[Clause], zero: bool, p: usize, q: usize, tables: &mut Rewrite
     }
 }
 
-// One session goes along the rows: those that were heard on it are rewritten. `owner` has the number of each row's prefix.
+// One session goes along the rows: those that were heard on it are rewritten. `owner` has the number of each row's prefix. Inlined, its loop
+// is slower by half: it would share the registers with all tables.
+#[inline(never)]
 fn pass(clauses: &[Clause], s: &Named, owner: &[u16], tables: &mut RewriteTables<'_>)
     requires told { Told owner.now (rewrite_tables tables.old) }
     requires long { Long (length owner.now) (rewrite_columns tables.old) }
