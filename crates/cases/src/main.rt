@@ -16,7 +16,7 @@ ghost use Rattle.roundtrip.specs.Trips.{Written};
 ghost use Rattle.cases.specs.Cases.{found, accepted_line, finding_line, widest_line};
 
 use refusal::Refused;
-use snapshot::{Arrays, Counts, LentColumns, LentTables, Tables};
+use snapshot::{Arrays, Counts, LentTables, Tables};
 use std::fs;
 use text::Sink;
 
@@ -104,10 +104,9 @@ fn run(rt: &HostRuntime, name: &str, room: usize)
     let n = files::read_full(&mut file, &mut input);
     let mut arrays = Arrays::new();
     let whole = arrays.lend();
-    let peer = whole.rows.peer;
+    let peer = whole.peer;
     let (peer, _) = peer.split_at_mut(room);
-    let rows = LentColumns { peer, ..whole.rows };
-    let mut tables = LentTables { rows, ..whole };
+    let mut tables = LentTables { peer, ..whole };
     let mut out = [0u8; LINE];
     let mut sink = Sink::new(&mut out);
     put_line(&mut sink, name.as_bytes(), &input[..n], &mut tables);

@@ -18,8 +18,19 @@ rewrite_columns t = columns t.router.now t.asn.now t.preference.now t.path.now t
 abbrev pub rewrite_tables : lent.RewriteTables → Tables
 rewrite_tables t = tables t.ids.now t.distances.now t.address.now t.bits.now t.routes.now (rewrite_columns t)
 
--- the columns lent to be rewritten are the same as before, whatever stands in them
+-- the tables lent are the same as before, whatever stands in those that are lent to be rewritten
 pub record KeepsRewrite (a b : lent.RewriteTables) : Type 0 where
+  pub ids : b.ids ≡ a.ids
+  pub distances : b.distances ≡ a.distances
+  pub address : b.address ≡ a.address
+  pub bits : b.bits ≡ a.bits
+  pub routes : b.routes ≡ a.routes
+  pub router : b.router ≡ a.router
+  pub asn : b.asn ≡ a.asn
+  pub path : b.path ≡ a.path
+  pub origin : b.origin ≡ a.origin
+  pub nid : b.nid ≡ a.nid
+  pub peer : b.peer ≡ a.peer
   pub preference : b.preference.ghost_name ≡ a.preference.ghost_name
   pub mark : b.mark.ghost_name ≡ a.mark.ghost_name
   pub med : b.med.ghost_name ≡ a.med.ghost_name

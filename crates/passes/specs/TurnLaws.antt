@@ -19,10 +19,40 @@ use Rattle.passes.specs.PassesLaws.{altered_none, altered_skip, altered_next, lo
 -- ---- what is lent stays the same
 
 pub keeps : {a : RewriteTables} → KeepsRewrite a a
-keeps = record { preference = refl; mark = refl; med = refl }
+keeps = record {
+  ids = refl;
+  distances = refl;
+  address = refl;
+  bits = refl;
+  routes = refl;
+  router = refl;
+  asn = refl;
+  path = refl;
+  origin = refl;
+  nid = refl;
+  peer = refl;
+  preference = refl;
+  mark = refl;
+  med = refl;
+}
 
 pub keeps_on : {a b c : RewriteTables} → KeepsRewrite a b → KeepsRewrite b c → KeepsRewrite a c
-keeps_on k l = record { preference = l.preference ∙ k.preference; mark = l.mark ∙ k.mark; med = l.med ∙ k.med }
+keeps_on k l = record {
+  ids = l.ids ∙ k.ids;
+  distances = l.distances ∙ k.distances;
+  address = l.address ∙ k.address;
+  bits = l.bits ∙ k.bits;
+  routes = l.routes ∙ k.routes;
+  router = l.router ∙ k.router;
+  asn = l.asn ∙ k.asn;
+  path = l.path ∙ k.path;
+  origin = l.origin ∙ k.origin;
+  nid = l.nid ∙ k.nid;
+  peer = l.peer ∙ k.peer;
+  preference = l.preference ∙ k.preference;
+  mark = l.mark ∙ k.mark;
+  med = l.med ∙ k.med;
+}
 
 -- ---- a row
 

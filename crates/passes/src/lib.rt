@@ -11,7 +11,7 @@ ghost use Rattle.clauses.specs.Walking.{clause_of, session_of, session_by, sessi
 ghost use Rattle.passes.specs.Passes.{rewrite_columns, rewrite_tables, KeepsRewrite, entries, Owned, of_row, prefix_field, ruled_row, passed, passed_all, applied, Long, Told, Lent};
 
 use clauses::{Announced, Clause, Named, Scope};
-use snapshot::{Columns, LentColumns, LentTables, Tables};
+use snapshot::{Columns, LentTables, Tables};
 
 // The most routes that tables hold.
 const MOST_ROWS: usize = snapshot::MOST_ROUTES as usize;
@@ -81,9 +81,6 @@ impl<'a> From<LentTables<'a>> for RewriteTables<'a> {
             address,
             bits,
             routes,
-            rows,
-        } = lent;
-        let LentColumns {
             router,
             asn,
             preference,
@@ -93,7 +90,7 @@ impl<'a> From<LentTables<'a>> for RewriteTables<'a> {
             med,
             nid,
             peer,
-        } = rows;
+        } = lent;
         RewriteTables {
             ids,
             distances,

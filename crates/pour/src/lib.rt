@@ -2,7 +2,7 @@
 #![tactic(auto)]
 
 ghost use Rattle.std.specs.Prelude.{◌≡◌, ◌+◌, ◌-◌, ◌≤◌, length};
-ghost use Rattle.snapshot.specs.Limits.{most_prefixes};
+ghost use Rattle.snapshot.specs.Limits.{most_prefixes, most_routes};
 ghost use Rattle.snapshot.specs.Tables.{put_routes, Wide, Room};
 ghost use Rattle.snapshot.specs.Lent.{lent_columns, lent_tables, KeepsColumns, Keeps};
 ghost use Rattle.fill.specs.Fill.{Spans, routes_from, behind_routes, prefixes_from, lists_in, put_prefixes, filled_from, WideLists};
@@ -37,6 +37,29 @@ pub fn fill_routes(input: &[u8], from: Place, room: usize, rows: &mut LentColumn
     Place { row: room, at }
 }
 
+// The same into the columns of tables.
+fn fill_columns(input: &[u8], from: Place, tables: &mut LentTables<'_>) -> Place
+    requires { (from.at ≤ length input.now) × (from.row ≤ most_routes) × Wide most_routes (lent_tables tables.old).rows }
+    ensures filled { (result.row ≡ from.row + length (routes_from (most_routes - from.row) input.now from.at)) × (result.at ≡ behind_routes (most_routes - from.row) input.now from.at)
+        × ((lent_tables tables.new).rows ≡ put_routes (lent_tables tables.old).rows from.row (routes_from (most_routes - from.row) input.now from.at)) }
+    ensures others { (tables.new.ids.now ≡ tables.old.ids.now) × (tables.new.distances.now ≡ tables.old.distances.now)
+        × (tables.new.address.now ≡ tables.old.address.now) × (tables.new.bits.now ≡ tables.old.bits.now) × (tables.new.routes.now ≡ tables.old.routes.now) }
+    ensures kept { Keeps tables.old tables.new }
+{
+    let mut rows = LentColumns {
+        router: tables.router,
+        asn: tables.asn,
+        preference: tables.preference,
+        path: tables.path,
+        origin: tables.origin,
+        mark: tables.mark,
+        med: tables.med,
+        nid: tables.nid,
+        peer: tables.peer,
+    };
+    fill_routes(input, from, snapshot::MOST_ROUTES as usize, &mut rows)
+}
+
 // Puts so many prefixes that stand from a place on, each with its routes, into the front of the columns.
 fn fill_prefixes(input: &[u8], at: usize, prefixes: usize, tables: &mut LentTables<'_>)
     requires { (at ≤ length input.now) × (prefixes ≤ most_prefixes) × WideLists most_prefixes (lists_in (lent_tables tables.old)) }
@@ -44,7 +67,6 @@ fn fill_prefixes(input: &[u8], at: usize, prefixes: usize, tables: &mut LentTabl
     ensures others { (tables.new.ids.now ≡ tables.old.ids.now) × (tables.new.distances.now ≡ tables.old.distances.now) }
     ensures kept { Keeps tables.old tables.new }
 {
-    let room = snapshot::MOST_ROUTES as usize;
     let mut next = Place { row: 0, at };
     for p in 0..prefixes {
         let first = next.at + snapshot::PREFIX_SIZE;
@@ -52,7 +74,7 @@ fn fill_prefixes(input: &[u8], at: usize, prefixes: usize, tables: &mut LentTabl
             return;
         }
         let network = cursor::network_at(input, next.at);
-        let end = fill_routes(input, Place { at: first, ..next }, room, &mut tables.rows);
+        let end = fill_columns(input, Place { at: first, ..next }, tables);
         let inside = end.row - next.row;
         fill::put_prefix(p, network, inside as u32, tables);
         next = end;

@@ -20,7 +20,9 @@ lent_columns c = columns c.router.now c.asn.now c.preference.now c.path.now c.or
 
 -- and in tables
 abbrev pub lent_tables : lent_all.LentTables → Tables
-lent_tables t = tables t.ids.now t.distances.now t.address.now t.bits.now t.routes.now (lent_columns t.rows)
+lent_tables t =
+    tables t.ids.now t.distances.now t.address.now t.bits.now t.routes.now
+    (columns t.router.now t.asn.now t.preference.now t.path.now t.origin.now t.mark.now t.med.now t.nid.now t.peer.now)
 
 -- the columns lent are the same as before, whatever stands in them
 pub record KeepsColumns (a b : lent.LentColumns) : Type 0 where
@@ -41,4 +43,12 @@ pub record Keeps (a b : lent_all.LentTables) : Type 0 where
   pub address : b.address.ghost_name ≡ a.address.ghost_name
   pub bits : b.bits.ghost_name ≡ a.bits.ghost_name
   pub routes : b.routes.ghost_name ≡ a.routes.ghost_name
-  pub rows : KeepsColumns a.rows b.rows
+  pub router : b.router.ghost_name ≡ a.router.ghost_name
+  pub asn : b.asn.ghost_name ≡ a.asn.ghost_name
+  pub preference : b.preference.ghost_name ≡ a.preference.ghost_name
+  pub path : b.path.ghost_name ≡ a.path.ghost_name
+  pub origin : b.origin.ghost_name ≡ a.origin.ghost_name
+  pub mark : b.mark.ghost_name ≡ a.mark.ghost_name
+  pub med : b.med.ghost_name ≡ a.med.ghost_name
+  pub nid : b.nid.ghost_name ≡ a.nid.ghost_name
+  pub peer : b.peer.ghost_name ≡ a.peer.ghost_name

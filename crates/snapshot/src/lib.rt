@@ -6,8 +6,8 @@ ghost use Rattle.std.specs.Prelude.{◌≡◌, false, not};
 ghost use Rattle.snapshot.specs.Ranges.{any_of, count_tests, id_tests, distance_tests, prefix_tests, asn_tests, route_tests, rises};
 ghost use Rattle.snapshot.specs.Records.{four_byte, route_form_by, route_forms, stands, size};
 ghost use Rattle.snapshot.specs.Plain.{route_is};
-ghost use Rattle.snapshot.specs.Tables.{short_lengths, short};
-ghost use Rattle.snapshot.specs.Lent.{columns_of, tables_of, lent_columns, lent_tables};
+ghost use Rattle.snapshot.specs.Tables.{short};
+ghost use Rattle.snapshot.specs.Lent.{tables_of, lent_tables};
 
 // The limits, with the names of specs/Limits.antt.
 pub const MOST_ROUTERS: u32 = 64;
@@ -168,42 +168,6 @@ pub fn late(a: u32, b: u32, c: u32, d: u32) -> bool
     !((a < c) | ((a == c) & (b < d)))
 }
 
-// Whether one of fourteen tables is shorter than its limit (ROOM), by their numbers of entries: lengths are handed on more cheaply
-// than slices.
-pub fn lacks_room(
-    ids: usize,
-    distances: usize,
-    address: usize,
-    bits: usize,
-    routes: usize,
-    router: usize,
-    asn: usize,
-    preference: usize,
-    path: usize,
-    origin: usize,
-    mark: usize,
-    med: usize,
-    nid: usize,
-    peer: usize,
-) -> bool
-    ensures { result ≡ any_of (short_lengths ids distances address bits routes router asn preference path origin mark med nid peer) }
-{
-    (ids < MOST_ROUTERS as usize)
-        | (distances < ROOM_DISTANCES)
-        | (address < MOST_PREFIXES as usize)
-        | (bits < MOST_PREFIXES as usize)
-        | (routes < MOST_PREFIXES as usize)
-        | (router < MOST_ROUTES as usize)
-        | (asn < MOST_ROUTES as usize)
-        | (preference < MOST_ROUTES as usize)
-        | (path < MOST_ROUTES as usize)
-        | (origin < MOST_ROUTES as usize)
-        | (mark < MOST_ROUTES as usize)
-        | (med < MOST_ROUTES as usize)
-        | (nid < MOST_ROUTES as usize)
-        | (peer < MOST_ROUTES as usize)
-}
-
 // The columns of the routes, lent to be read.
 #[derive(Clone, Copy)]
 pub struct Columns<'a> {
@@ -244,7 +208,8 @@ pub struct LentColumns<'a> {
     pub peer: &'a mut [u32],
 }
 
-// The tables of a snapshot, lent to be filled.
+// The tables of a snapshot, lent to be filled. The columns stand among them and not in a struct of their own: of a reference that lies in a
+// struct in a struct, the caller who lent it learns nothing.
 #[derive(Drop)]
 pub struct LentTables<'a> {
     pub ids: &'a mut [u32],
@@ -252,26 +217,15 @@ pub struct LentTables<'a> {
     pub address: &'a mut [u32],
     pub bits: &'a mut [u32],
     pub routes: &'a mut [u32],
-    pub rows: LentColumns<'a>,
-}
-
-impl<'a> LentColumns<'a> {
-    // The same columns, to be read.
-    pub fn view(&self) -> Columns<'_>
-        ensures { columns_of result ≡ lent_columns self.now }
-    {
-        Columns {
-            router: &*self.router,
-            asn: &*self.asn,
-            preference: &*self.preference,
-            path: &*self.path,
-            origin: &*self.origin,
-            mark: &*self.mark,
-            med: &*self.med,
-            nid: &*self.nid,
-            peer: &*self.peer,
-        }
-    }
+    pub router: &'a mut [u32],
+    pub asn: &'a mut [u32],
+    pub preference: &'a mut [u32],
+    pub path: &'a mut [u32],
+    pub origin: &'a mut [u32],
+    pub mark: &'a mut [u32],
+    pub med: &'a mut [u32],
+    pub nid: &'a mut [u32],
+    pub peer: &'a mut [u32],
 }
 
 impl<'a> LentTables<'a> {
@@ -285,7 +239,17 @@ impl<'a> LentTables<'a> {
             address: &*self.address,
             bits: &*self.bits,
             routes: &*self.routes,
-            rows: self.rows.view(),
+            rows: Columns {
+                router: &*self.router,
+                asn: &*self.asn,
+                preference: &*self.preference,
+                path: &*self.path,
+                origin: &*self.origin,
+                mark: &*self.mark,
+                med: &*self.med,
+                nid: &*self.nid,
+                peer: &*self.peer,
+            },
         }
     }
 }
@@ -373,7 +337,12 @@ impl Arrays {
             nid,
             peer,
         } = self;
-        let rows = LentColumns {
+        LentTables {
+            ids,
+            distances,
+            address,
+            bits,
+            routes,
             router,
             asn,
             preference,
@@ -383,14 +352,6 @@ impl Arrays {
             med,
             nid,
             peer,
-        };
-        LentTables {
-            ids,
-            distances,
-            address,
-            bits,
-            routes,
-            rows,
         }
     }
 }
