@@ -35,6 +35,16 @@ pub struct Contest<'a> {
     ghost meds_fit: { (q : ℕ) → column med.now q ≤ past_keys },
 }
 
+impl<'a> Contest<'a> {
+    // The contest of these columns.
+    pub fn new(group: &'a [u32], med: &'a [u32], ends: &'a [u32]) -> Contest<'a>
+        requires { Ready group.now med.now ends.now }
+        ensures { (result.group.now ≡ group.now) × (result.med.now ≡ med.now) × (result.ends.now ≡ ends.now) }
+    {
+        Contest { group, med, ends }
+    }
+}
+
 impl Contest<'_> {
     // Lowers the number of each group to the least MED of the contenders that stand at or before the place that their router has.
     fn pass(&self, state: &[u32], low: &mut [u32])
@@ -58,6 +68,7 @@ impl Contest<'_> {
     {
         let mut from = 0;
         let mut moved = false;
+        // Of a zip over iter_mut the kit's proofs do not know what it leaves in the slice, so the ends are read by number.
         for (r, place) in state.iter_mut().enumerate() {
             let to = from + self.ends[r] as usize;
             let next = group::first_spared(&self.group[from..to], &self.med[from..to], low);

@@ -4,8 +4,8 @@
 ghost use Rattle.std.specs.Prelude.{◌≡◌, ℕ, ◌≤◌, ◌<◌, true, false, length};
 ghost use Rattle.model.specs.Rows.{table, column, start};
 ghost use Rattle.model.specs.Lent.{Inside};
-ghost use Rattle.model.specs.Columns.{most_rows, Fits};
-ghost use Rattle.model.specs.Listing.{counts_in, gathered, groups_in, stands_at, rest_in, Ready, RestRows};
+ghost use Rattle.model.specs.Columns.{most_routers, most_rows, Fits};
+ghost use Rattle.model.specs.Listing.{counts_in, gathered, groups_in, stands_at, settled_by, rest_in, Ready, RestRows};
 ghost use Rattle.rows.specs.Lent.{columns_in};
 
 use rows::Routes;
@@ -19,6 +19,7 @@ fn rows_at(order: &[u16], ends: &[u32], state: &[u32], own: &mut [u16])
     ensures { own.new ≡ table (length ends.now) (stands_at order.now ends.now state.now) }
 {
     let mut rest = order;
+    // Of a zip over iter_mut the kit's proofs do not know what it leaves in the slice, so ends and places are read by number.
     for (r, row) in own.iter_mut().enumerate() {
         let (mine, others) = rest.split_at(ends[r] as usize);
         *row = mine.get(state[r] as usize).copied().unwrap_or(rows::NONE);
@@ -26,37 +27,41 @@ fn rows_at(order: &[u16], ends: &[u32], state: &[u32], own: &mut [u16])
     }
 }
 
-// The early and the late rows at which the routers stand, where the contenders are listed in order, in the room that is lent.
-fn rest_rows(
-    routes: &Routes<'_>,
-    order: &[u16],
-    meds: &mut [u32],
-    group: &mut [u32],
-    ends: &mut [u32],
-    early: &mut [u16],
-    late: &mut [u16],
-)
-    requires inside { Inside (length routes.now.router.now) order.now × (length routes.now.asn.now ≡ length routes.now.router.now) × (length routes.now.med.now ≡ length routes.now.router.now) }
-    requires owned { (q : ℕ) → q < length routes.now.router.now → column routes.now.router.now q < length ends.old }
-    requires lengths { (length meds.old ≡ length order.now) × (length group.old ≡ length order.now) × (length early.old ≡ length ends.old) × (length late.old ≡ length ends.old) }
-    requires ready { Ready (groups_in routes.now.asn.now order.now) (gathered routes.now.med.now order.now) (counts_in routes.now.router.now (length ends.old) order.now) }
-    ensures early_rows { early.new ≡ rest_in false (length ends.old) routes.now.router.now routes.now.asn.now routes.now.med.now order.now }
-    ensures late_rows { late.new ≡ rest_in true (length ends.old) routes.now.router.now routes.now.asn.now routes.now.med.now order.now }
+// The early and the late rows at which the routers stand in a contest whose contenders are these rows.
+fn rest_of(contest: &Contest<'_>, order: &[u16], early: &mut [u16], late: &mut [u16])
+    requires order_len { length order.now ≡ length contest.now.group.now }
+    requires lengths { (length early.old ≡ length contest.now.ends.now) × (length late.old ≡ length contest.now.ends.now) }
+    ensures early_rows { early.new ≡ table (length contest.now.ends.now) (stands_at order.now contest.now.ends.now (settled_by false contest.now.group.now contest.now.med.now contest.now.ends.now)) }
+    ensures late_rows { late.new ≡ table (length contest.now.ends.now) (stands_at order.now contest.now.ends.now (settled_by true contest.now.group.now contest.now.med.now contest.now.ends.now)) }
 {
-    contender::ends(routes.router, order, ends);
-    rows::gather(routes.med, order, meds);
-    group::groups(routes.asn, order, group);
-    let contest = Contest {
-        group,
-        med: meds,
-        ends,
-    };
     let mut places = settle::unplaced();
-    let state = &mut places[..ends.len()];
+    let state = &mut places[..contest.ends.len()];
     contest.earliest(state);
-    rows_at(order, ends, state, early);
+    rows_at(order, contest.ends, state, early);
     contest.latest(state);
-    rows_at(order, ends, state, late);
+    rows_at(order, contest.ends, state, late);
+}
+
+// The early and the late rows at which the routers stand, where the contenders are listed in order.
+fn rest_rows(routes: &Routes<'_>, order: &[u16], early: &mut [u16], late: &mut [u16])
+    requires inside { Inside (length routes.now.router.now) order.now × (length routes.now.asn.now ≡ length routes.now.router.now) × (length routes.now.med.now ≡ length routes.now.router.now) }
+    requires owned { (q : ℕ) → q < length routes.now.router.now → column routes.now.router.now q < length early.old }
+    requires few { (length order.now ≤ most_rows) × (length early.old ≤ most_routers) }
+    requires late_len { length late.old ≡ length early.old }
+    requires ready { Ready (groups_in routes.now.asn.now order.now) (gathered routes.now.med.now order.now) (counts_in routes.now.router.now (length early.old) order.now) }
+    ensures early_rows { early.new ≡ rest_in false (length early.old) routes.now.router.now routes.now.asn.now routes.now.med.now order.now }
+    ensures late_rows { late.new ≡ rest_in true (length early.old) routes.now.router.now routes.now.asn.now routes.now.med.now order.now }
+{
+    let mut group = rows::past();
+    let mut med = rows::past();
+    let mut ends = settle::unplaced();
+    let contenders = order.len();
+    let routers = early.len();
+    group::groups(routes.asn, order, &mut group[..contenders]);
+    rows::gather(routes.med, order, &mut med[..contenders]);
+    contender::ends(routes.router, order, &mut ends[..routers]);
+    let contest = Contest::new(&group[..contenders], &med[..contenders], &ends[..routers]);
+    rest_of(&contest, order, early, late);
 }
 
 // The rows of its own at which each router stands when the contest comes to rest: early and late.
@@ -67,24 +72,13 @@ pub fn own_rows(routes: &Routes<'_>, early: &mut [u16], late: &mut [u16])
 {
     let mut list = rows::unlisted();
     let mut order = rows::unlisted();
-    let mut meds = rows::past();
-    let mut group = rows::past();
-    let mut ends = settle::unplaced();
+    let mut counts = settle::unplaced();
     let rows = routes.router.len();
-    let routers = early.len();
     let m = contender::contenders(
         routes,
-        &mut ends[..routers],
+        &mut counts[..early.len()],
         &mut list[..rows],
         &mut order[..rows],
     );
-    rest_rows(
-        routes,
-        &order[..m],
-        &mut meds[..m],
-        &mut group[..m],
-        &mut ends[..routers],
-        early,
-        late,
-    );
+    rest_rows(routes, &order[..m], early, late);
 }
