@@ -3,10 +3,10 @@
 
 ghost use Rattle.std.specs.Prelude.{◌≡◌, cond, ◌||◌, ℕ, ◌+◌, ◌*◌, ◌≤◌, ◌<◌, length, get_or, eqb};
 ghost use Rattle.model.specs.Rows.{keep, some, span, column, keep_least, keep_greatest};
-ghost use Rattle.model.specs.Decision.{none, beats_by, unbeaten_by};
+ghost use Rattle.model.specs.Decision.{none, beats_by, unbeaten_by, nearest};
 ghost use Rattle.model.specs.Lent.{Inside, Front, Packed, after_two};
 ghost use Rattle.model.specs.Columns.{most_routers, most_rows, choice_of, distance_in, Placed};
-ghost use Rattle.rows.specs.Lent.{columns_in};
+ghost use Rattle.rows.specs.Lent.{columns_in, mesh_in};
 
 use rows::{Mesh, Routes};
 
@@ -106,11 +106,11 @@ fn tie_id(router: &[u32], nid: &[u32], ids: &[u32], q: usize, r: u32) -> u32
 }
 
 // 6. The lowest interior distance to the router that owns the route (0 for one's own). 7. The lowest id: the neighbour's id for an own
-// route, the owning router's id otherwise. 8. The lowest peer address.
+// route, the owning router's id otherwise. 8. The lowest peer address. How many routers there are plays no part.
 fn nearest(mesh: &Mesh<'_>, r: u32, rows: &mut [u16]) -> usize
     requires inside { Inside (length mesh.now.routes.router.now) rows.old × (length mesh.now.routes.nid.now ≡ length mesh.now.routes.router.now) × (length mesh.now.routes.peer.now ≡ length mesh.now.routes.router.now) }
     requires most_routers_in_bounds { (most_routers * most_routers ≤ length mesh.now.distances.now) × (r < most_routers) × ((q : ℕ) → q < length mesh.now.routes.router.now → (column mesh.now.routes.router.now q < most_routers) × (column mesh.now.routes.router.now q < length mesh.now.ids.now)) }
-    ensures { Front result rows.new (keep_least (column mesh.now.routes.peer.now) (keep_least (λ q. cond (eqb (column mesh.now.routes.router.now q) r) (column mesh.now.routes.nid.now q) (column mesh.now.ids.now (column mesh.now.routes.router.now q))) (keep_least (λ q. cond (eqb (column mesh.now.routes.router.now q) r) 0 (distance_in mesh.now.distances.now r (column mesh.now.routes.router.now q))) rows.old))) }
+    ensures { Front result rows.new (nearest (mesh_in 0 mesh.now) r rows.old) }
 {
     let routes = &mesh.routes;
     let near = rows::keep_lowest(rows, |q| far(routes.router, mesh.distances, q, r));
