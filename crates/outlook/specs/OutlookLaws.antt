@@ -67,7 +67,7 @@ module _ (t : Tables) (early late : List ℕ) where
   area_short e = second_of (any_of (short t)) short_early short_late e
 
   -- a table is
-  pub table_short : T (any_of (short t)) → any_of (short_of t early late) ≡ true
+  table_short : T (any_of (short t)) → any_of (short_of t early late) ≡ true
   table_short h = first_of (any_of (short t)) short_early short_late h
 
   -- none is
@@ -202,9 +202,6 @@ module _ {counts : Counts} {t : Tables} {s : Snapshot} (enough : Room t) (valid 
 -- ---- rows at the start of two areas
 
 module _ {n n' : ℕ} (e : n ≡ n') (ids distances : List ℕ) (c : Columns) where
-  pub placed_again : Placed n ids distances c → Placed n' ids distances c
-  placed_again p = subst (λ (z : ℕ). Placed z ids distances c) e p
-
   pub shown_again : {d : Differing} {rows lasts early₀ early₁ late₀ late₁ : List ℕ}
       → n ≤ length early₀ → n ≤ length late₀ → early₁ ≡ rows ++ drop n early₀ → late₁ ≡ lasts ++ drop n late₀
       → Decided (lent_mesh n' ids distances c) d rows lasts → Shown (lent_mesh n ids distances c) d early₀ early₁ late₀ late₁

@@ -5,7 +5,7 @@ use Rattle.std.specs.Int.Count.{ones}
 use Rattle.std.proofs.lemmas.Nat.{ones_cat}
 use Rattle.model.specs.Rows.{keep, span}
 use Rattle.model.proofs.NumberLaws.{shifted}
-use Rattle.model.proofs.LoopLaws.{Walk, walk, walk_on, walk_off, walk_end}
+use Rattle.model.proofs.LoopLaws.{Walk, walk, walk_on, walk_off}
 use Rattle.word.specs.Word.{word}
 
 -- ---- the loop
@@ -20,9 +20,6 @@ module _ {test : ℕ → Bool} {n : ℕ} where
   marked = record { at = walk (omega arith); low = omega arith }
 
   module _ {i bits : ℕ} (s : Marked test n i bits) where
-    pub marked_end : n ≤ i → bits ≡ word (keep test (span 0 n))
-    marked_end l = let e = walk_end s.at l in omega arith
-
     module _ {b : Bool} (l : i < n) (e : b ≡ test i) where
       pub marked_off : b ≡ false → Marked test n (i + 1) bits
       marked_off h = record {
