@@ -75,13 +75,13 @@ def twins():
 
 
 POINTS = [
-    ('1 enums of the shape of Option or Result', lambda: [x for x in lines(r'^\s*(pub )?enum \w+ \{') if not re.search(r'enum (Refusal|Kind)\b', x[2])]),
+    ('1 enums of the shape of Option or Result', lambda: [x for x in lines(r'^\s*(pub )?enum \w+ \{') if not re.search(r'enum (Refusal|Scope|RevisionError)\b', x[2])]),
     ('1 kinds and refusals as numbers', lambda: lines(r'kind (==|!=) \d|(==|!=) \d+ *\)? *\| *\(?kind|match kind|kind: u(8|32)|due: u8|\.opening\(input, \d|entry\(c, input, k, \d|policy\[at\] == \d|wire::put8\([^,]*, at, \d|^\s*wire::put8\(out, at, \d')),
     ('1 a number for no value', lambda: lines(r'\bNONE\b')),
     ('1 flags with or for a value', lambda: lines(r'\b\w+: bool\b')),
     ('2 twins (bodies alike but for names and numbers)', twins),
     ('3 loops with a hand-counted index', lambda: lines(r'^\s*(\'\w+: )?while\b|^\s*(\'\w+: )?loop\b')),
-    ('3 loops over a range of indices', lambda: lines(r'\bfor \w+ in \S+\.\.')),
+    ('3 loops over a range of indices', lambda: lines(r'\bfor \w+ in [\w.:]+\.\.')),
     ('4 conversions by hand', lambda: [(n, k, f'{name}') for n, k, name, p, b in functions() if re.fullmatch(r'.*_number|refused|revised|wide|with_\w+|of(16|32)|pick', name)]),
     ('5 functions that are passed four or more slices', lambda: many_slices(4)),
     ('5 slices passed one by one', lambda: [(n, k, l) for n, k, l in lines(r'^\s*(mut )?\w+: &(mut )?\[u(16|32)\],')]),
