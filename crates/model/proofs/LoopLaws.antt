@@ -1,10 +1,24 @@
 -- Laws by which a loop over numbers is proved, which goes from 0 up.
-use Rattle.std.specs.Prelude.{ℕ, ◌+◌, ◌-◌, ◌≤◌, ◌<◌, ◌≡◌, refl, Bool, true, false, not, ◌&&◌, ◌||◌, List, length, get_or, set, eqb, ltb}
+use Rattle.std.specs.Prelude.{ℕ, suc, ◌+◌, ◌-◌, ◌≤◌, ◌<◌, ◌≡◌, refl, Bool, true, false, not, ◌&&◌, ◌||◌, List, [], ◌∷◌, length, get_or, set, eqb, ltb}
 use Rattle.std.proofs.Common.{zero-le, not-suc-le-zero, add-one, arith, sym, ap, ap₂, ◌∙◌, subst, length-set, get_or-set_same, get_or-set_other, ext_get_or, below_more, ltb-true, ltb-false, eqb-true}
 use Rattle.std.proofs.lemmas.List.{set-get_or}
 use Rattle.std.proofs.lemmas.Bool.{not-true, not-false}
-use Rattle.model.specs.Rows.{some, table}
+use Rattle.model.specs.Rows.{some, span, table}
 use Rattle.model.proofs.RowLaws.{by, both, or_false, some_append, some_snoc, table_length, table_at, table_append, table_snoc}
+
+-- the rows from i up to n
+abbrev pub rest : ℕ → ℕ → List ℕ
+rest i n = span i (n - i)
+
+pub rest_next : (i n : ℕ) → i < n → rest i n ≡ i ∷ rest (i + 1) n
+rest_next i n l =
+    let e : n - i ≡ suc (n - (i + 1)) = omega arith in
+    rw (e, add-one)
+
+pub rest_end : (i n : ℕ) → n ≤ i → rest i n ≡ []
+rest_end i n l =
+    let e : n - i ≡ 0 = omega arith in
+    rw e
 
 -- ---- a loop that stores f k at each k below n, and has done so below i
 pub record Stored {A : Type 0} (d : A) (f : ℕ → A) (n : ℕ) (xs₀ : List A) (i : ℕ) (xs : List A) : Type 0 where
