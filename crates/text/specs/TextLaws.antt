@@ -1,26 +1,13 @@
 -- Laws of texts in buffers, and by which the loops that put them are proved.
-use Rattle.std.specs.Prelude.{ℕ, suc, ◌+◌, ◌-◌, ◌*◌, ◌≤◌, ◌<◌, ◌≡◌, refl, List, [], ◌∷◌, ◌++◌}
+use Rattle.std.specs.Prelude.{ℕ, suc, ◌+◌, ◌*◌, ◌≤◌, ◌<◌, ◌≡◌, refl, List, [], ◌++◌}
 use Rattle.std.proofs.Common.{mul-suc, mul-le-mul_left, add-one, arith, sym, ap, ap₂, subst, ◌∙◌, append_assoc, append-nil, length-append}
 use Rattle.std.proofs.lemmas.List.Edits.{sets}
 use Rattle.std.proofs.Math.Nat.{sub-zero}
 use Rattle.model.specs.Rows.{span}
+use Rattle.model.proofs.LoopLaws.{rest, rest_next, rest_end}
 use Rattle.model.proofs.ColumnLaws.{sets_append}
 use Rattle.text.specs.declared.Sink.{Sink}
 use Rattle.text.specs.Text.{each, HasRoom, Puts, PutsAtMost}
-
--- the numbers from i up to n, and how they are taken off one by one
-abbrev pub rest : ℕ → ℕ → List ℕ
-rest i n = span i (n - i)
-
-rest_next : (i n : ℕ) → i < n → rest i n ≡ i ∷ rest (i + 1) n
-rest_next i n l =
-    let e : n - i ≡ suc (n - (i + 1)) = omega arith in
-    rw (e, add-one)
-
-rest_end : (i n : ℕ) → n ≤ i → rest i n ≡ []
-rest_end i n l =
-    let e : n - i ≡ 0 = omega arith in
-    rw e
 
 -- nothing is put
 pub puts_none : (s : Sink) → Puts s s []

@@ -1,9 +1,10 @@
 -- The bytes of each section, taken off one by one from the front, as the loops put them.
-use Rattle.std.specs.Prelude.{ℕ, suc, ◌+◌, ◌-◌, ◌≤◌, ◌<◌, ◌≡◌, refl, ◌≢◌, List, [], ◌∷◌, ◌++◌, map, length}
+use Rattle.std.specs.Prelude.{ℕ, suc, ◌+◌, ◌-◌, ◌<◌, ◌≡◌, refl, ◌≢◌, List, [], ◌∷◌, ◌++◌, map, length}
 use Rattle.std.proofs.Common.{add-one, arith, sym, ap, ◌∙◌, subst, append_assoc}
 use Rattle.std.proofs.Math.Nat.{sub-zero}
 use Rattle.std.proofs.lemmas.List.Edits.{sets}
-use Rattle.model.specs.Rows.{span, table, column, start}
+use Rattle.model.specs.Rows.{table, column, start}
+use Rattle.model.proofs.LoopLaws.{rest, rest_next, rest_end}
 use Rattle.snapshot.specs.Records.{router_form, distance_form, prefix_form, route_forms, written, written_in}
 use Rattle.snapshot.specs.Format.{Pair, row, rows, routers_bytes, routes_bytes, prefixes_bytes, route_fields}
 use Rattle.snapshot.specs.Tables.{Columns, Tables}
@@ -12,20 +13,6 @@ use Rattle.tables.specs.Judging.{route_at, routes_at, prefix_at, cell}
 use Rattle.records.specs.Putting.{Space, Puts}
 use Rattle.records.specs.PuttingLaws.{Left, left, left_next, left_room, left_as, left_done, left_end}
 use Rattle.writer.specs.Writing.{pairs_bytes, row_bytes, rows_bytes, prefix_from, prefix_bytes}
-
--- the numbers from i up to n, and how they are taken off one by one
-abbrev pub rest : ℕ → ℕ → List ℕ
-rest i n = span i (n - i)
-
-rest_next : (i n : ℕ) → i < n → rest i n ≡ i ∷ rest (i + 1) n
-rest_next i n l =
-    let e : n - i ≡ suc (n - (i + 1)) = omega arith in
-    rw (e, add-one)
-
-rest_end : (i n : ℕ) → n ≤ i → rest i n ≡ []
-rest_end i n l =
-    let e : n - i ≡ 0 = omega arith in
-    rw e
 
 -- the k-th part is the first of what is left from it on
 pub record Step (bytes : ℕ → List ℕ) (k : ℕ) (part : List ℕ) : Type 0 where
