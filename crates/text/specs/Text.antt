@@ -1,16 +1,32 @@
 -- Words and numbers as bytes, and what is left of a buffer into which they are put.
-use Rattle.std.specs.Prelude.{ℕ, ◌+◌, ◌≤◌, ◌≡◌, List, [], ◌∷◌, ◌++◌, length}
+use Rattle.std.specs.Prelude.{ℕ, zero, suc, ◌+◌, ◌/◌, ◌%◌, ◌^◌, ◌≤◌, ◌≡◌, cond, List, [], ◌∷◌, ◌++◌, ltb, length}
 use Prim.Native.Char.{code}
 use Prim.Native.String as string
 use Rattle.std.proofs.lemmas.List.Edits.{sets}
--- a number in decimal, with no leading zeros
-pub use Rattle.std.specs.Fmt.{decimal}
 use Rattle.text.specs.declared.Sink.{Sink}
 
 -- the bytes of a word
 abbrev pub ascii : string.String → List ℕ
 ascii string.[] = []
 ascii (string.◌∷◌ c s) = code c ∷ ascii s
+
+-- the last k decimal digits of n
+abbrev pub digits : ℕ → ℕ → List ℕ
+digits zero n = []
+digits (suc k) n = (48 + n / 10 ^ k % 10) ∷ digits k n
+
+-- the first number from k on so many digits of which hold n; looked for no longer than the count lasts
+abbrev pub width_from : ℕ → ℕ → ℕ → ℕ
+width_from zero k n = k
+width_from (suc left) k n = cond (ltb n (10 ^ k)) k (width_from left (suc k) n)
+
+-- how many digits n has: n of them would always do
+abbrev pub width : ℕ → ℕ
+width n = width_from n 1 n
+
+-- a number in decimal, with no leading zeros
+unfoldable pub decimal : ℕ → List ℕ
+decimal n = digits (width n) n
 
 -- one text after the other, for each number of a list
 abbrev pub each : (ℕ → List ℕ) → List ℕ → List ℕ
