@@ -10,7 +10,7 @@ ghost use Rattle.std.specs.Prelude.{◌≡◌, ◌++◌, suc, ◌+◌, ◌≤◌
 ghost use Rattle.snapshot.specs.Limits.{most_routes, longest};
 ghost use Rattle.snapshot.specs.Lent.{tables_of, lent_tables, Keeps};
 ghost use Rattle.tables.specs.Judging.{Decides};
-ghost use Rattle.text.specs.Text.{ascii, decimal, HasRoom, PutsAtMost};
+ghost use Rattle.text.specs.Text.{ascii, HasRoom, PutsAtMost};
 ghost use Rattle.lines.specs.Lines.{widest};
 ghost use Rattle.roundtrip.specs.Trips.{Written};
 ghost use Rattle.cases.specs.Cases.{found, accepted_line, finding_line, widest_line};
@@ -50,24 +50,15 @@ fn examined(input: &[u8], tables: &mut LentTables<'_>) -> Result<(Counts, bool),
     Ok((counts, same))
 }
 
-// Puts a number behind a blank.
-fn put_count(sink: &mut Sink<'_>, n: u32)
-    requires { HasRoom sink.old 11 }
-    ensures { PutsAtMost 11 sink.old sink.new (ascii " " ++ decimal n) }
-{
-    sink.put_text(b" ");
-    sink.put_decimal(n as u64);
-}
-
 // Puts what was found of a snapshot that was accepted.
 fn put_accepted(sink: &mut Sink<'_>, counts: Counts, same: bool)
     requires { HasRoom sink.old widest }
     ensures { PutsAtMost widest sink.old sink.new (accepted_line counts same) }
 {
     sink.put_text(b"accepted");
-    put_count(sink, counts.routers);
-    put_count(sink, counts.prefixes);
-    put_count(sink, counts.routes);
+    lines::put_number(sink, b" ", counts.routers);
+    lines::put_number(sink, b" ", counts.prefixes);
+    lines::put_number(sink, b" ", counts.routes);
     if same {
         sink.put_text(b" same bytes\n");
         return;

@@ -13,7 +13,7 @@ use rows::NONE;
 use text::Sink;
 
 // Puts a word and a number.
-fn put_number(sink: &mut Sink<'_>, word: &[u8], n: u32)
+pub fn put_number(sink: &mut Sink<'_>, word: &[u8], n: u32)
     requires { HasRoom sink.old (length word.now + 10) }
     ensures { PutsAtMost (length word.now + 10) sink.old sink.new (word.now ++ decimal n) }
 {

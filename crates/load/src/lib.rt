@@ -117,6 +117,7 @@ pub fn forecast(input: &[u8], prefix: usize, early: &mut [u16], late: &mut [u16]
     requires { Asked input.now (length early.old) prefix × (length late.old ≡ length early.old) }
     ensures { Forecast input.now prefix result early.new late.new }
 {
+    // A struct that owns these, with a method that lends them, would write each out twice more.
     let mut ids = [0u32; rows::MOST_ROUTERS];
     let mut distances = [0u32; snapshot::ROOM_DISTANCES];
     let mut router = [0u32; rows::MOST_ROWS];
