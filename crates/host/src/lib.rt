@@ -45,7 +45,9 @@ fn put_rows(early: &[u16], late: &[u16], area: &mut [u8])
     }
 }
 
-// The answer to a prefix that the snapshot has, where there are n routers.
+// The answer to a prefix that the snapshot has, where there are n routers. It stands apart from the reading, so that a snapshot that is
+// refused takes nothing of the stack for tables.
+#[inline(never)]
 fn answer(snapshot: &[u8], n: usize, prefix: usize, area: &mut [u8]) -> u32
     requires { Asked snapshot.now n prefix × (area_bytes ≤ length area.old) }
     ensures { Answers snapshot.now prefix area.old result area.new }
