@@ -1,7 +1,8 @@
 -- What a policy's call on lent tables answers, and what it leaves in them.
-use Rattle.std.specs.Prelude.{List, [], ℕ, T}
+use Rattle.std.specs.Prelude.{List, [], ℕ, T, Result}
 use Rattle.refusal.specs.declared.Refusal.TheVariants.{Room, Table}
-use Rattle.refusal.specs.Numbers.{Said, refuses, gives}
+use Rattle.refusal.specs.declared.Refused.{Refused}
+use Rattle.refusal.specs.Numbers.{Said, refuses, gives, said_by}
 use Rattle.snapshot.specs.declared.Counts.{Counts}
 use Rattle.snapshot.specs.Ranges.{any_of, none}
 use Rattle.snapshot.specs.Format.{Snapshot, Valid}
@@ -12,13 +13,10 @@ use Rattle.policy.specs.Policy.{Policy}
 use Rattle.policy.specs.Reading.{reading}
 use Rattle.policy.specs.Rewriting.{rewritten}
 use Rattle.sessions.specs.Sessions.{said_of}
-use Rattle.apply.specs.declared.Applied.{Applied}
-use Rattle.apply.specs.declared.Applied.TheVariants.{Rewritten, Refused}
 
 -- an answer of the code, in document 01's numbers
-abbrev pub said : Applied → Said
-said Rewritten = gives []
-said (Refused r at) = refuses r at
+abbrev pub said : Result (Unit {0}) Refused → Said
+said = said_by (λ _. gives [])
 
 -- what reading a policy leaves in tables that hold a snapshot: the rewritten snapshot in its used rows, or all as before
 abbrev pub left : AnswerOf Policy → Snapshot → Tables → Tables

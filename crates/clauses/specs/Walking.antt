@@ -1,14 +1,13 @@
 -- What is applied of a policy file that was judged: its sessions and their clauses, by the places where they stand. All of it is said
 -- of any bytes: what does not stand there whole is not taken.
-use Rattle.std.specs.Prelude.{ℕ, zero, suc, ◌+◌, ◌≤◌, Bool, cond, ◌&&◌, ◌||◌, ◌≡◌, List, [], ◌∷◌, map, length, get_or, take, leb, eqb}
-use Rattle.std.proofs.lemmas.List.Edits.{sets}
-use Rattle.wire.specs.Numbers.{number_at}
-use Rattle.model.specs.Rows.{table, column}
+use Rattle.std.specs.Prelude.{ℕ, zero, suc, ◌+◌, Bool, cond, ◌&&◌, ◌||◌, List, [], ◌∷◌, length, get_or, take, leb, eqb}
 use Rattle.snapshot.specs.Records.{size, values_at}
 use Rattle.policy.specs.Policy.{Clause, exact, direct, any, Session, most_clauses, session_form, exact_form, direct_form, any_form, zero_form, clause_form, clauses_bytes}
-use Rattle.policy.specs.Rewriting.{preference_of}
 use Rattle.policy.specs.Reading.{exact_clause, direct_clause, any_clause}
 use Rattle.clauses.specs.declared.Named.{Named}
+use Rattle.clauses.specs.declared.Scope.{Scope}
+use Rattle.clauses.specs.declared.Scope.TheVariants.{Prefix, Direct, All}
+use Rattle.clauses.specs.declared.Clause as code
 
 -- at most so many things from a place on, one behind the other: whether one stands at a place, what it is, and the place behind it
 unfoldable pub walk : {A : Type 0} → (ℕ → Bool) → (ℕ → A) → (ℕ → ℕ) → ℕ → ℕ → List A
@@ -43,59 +42,17 @@ clauses_from bs at = walk (is_clause bs) (clause_at bs) (λ k. k + size_at bs k)
 unfoldable pub behind_clauses : List ℕ → ℕ → ℕ
 behind_clauses bs at = at + length (clauses_bytes (clauses_from bs at))
 
--- ---- clauses taken apart
+-- ---- the code's clauses
 
--- a clause by its kind, its address or AS, its prefix length and the preference that it gives
-abbrev pub clause_by : ℕ → ℕ → ℕ → ℕ → Clause
-clause_by kind key long gives = cond (eqb kind exact_form.kind) (exact key long gives) (cond (eqb kind direct_form.kind) (direct key gives) (any gives))
+-- the clause for a scope that gives a preference
+abbrev pub scoped : Scope → ℕ → Clause
+scoped (Prefix address bits) preference = exact address bits preference
+scoped (Direct asn) preference = direct asn preference
+scoped All preference = any preference
 
--- and each of these of a clause: kind; address or AS, or its only field; prefix length, 0 where it has none
-abbrev pub kind_of : Clause → ℕ
-kind_of c = (clause_form c).kind
-
-abbrev pub key_of : Clause → ℕ
-key_of (exact address bits preference) = address
-key_of (direct asn preference) = asn
-key_of (any preference) = preference
-
-abbrev pub length_of : Clause → ℕ
-length_of (exact address bits preference) = bits
-length_of (direct asn preference) = 0
-length_of (any preference) = 0
-
--- these are of that clause
-pub record Parts (c : Clause) (kind key long gives : ℕ) : Type 0 where
-  pub kinds : kind ≡ kind_of c
-  pub keys : key ≡ key_of c
-  pub longs : long ≡ length_of c
-  pub given : gives ≡ preference_of c
-
--- the prefix length of the clause at a place, where it is one for a prefix
-abbrev pub length_at : List ℕ → ℕ → ℕ
-length_at bs at = cond (eqb (get_or bs at 0) exact_form.kind) (number_at 1 bs (at + 5)) 0
-
--- the clause in a row of four tables
-abbrev pub clause_in : List ℕ → List ℕ → List ℕ → List ℕ → ℕ → Clause
-clause_in kind key long gives k = clause_by (column kind k) (column key k) (column long k) (column gives k)
-
--- the clauses in their first n rows
-abbrev pub apart : List ℕ → List ℕ → List ℕ → List ℕ → ℕ → List Clause
-apart kind key long gives n = table n (clause_in kind key long gives)
-
--- the four tables have so many rows
-pub record Wide (n : ℕ) (kind key long gives : List ℕ) : Type 0 where
-  pub kinds : n ≤ length kind
-  pub keys : n ≤ length key
-  pub longs : n ≤ length long
-  pub given : n ≤ length gives
-
--- n clauses stand in the first rows of four tables, and all other entries are as before
-pub record Apart (cs : List Clause) (kind₀ key₀ long₀ gives₀ : List ℕ) (n : ℕ) (kind key long gives : List ℕ) : Type 0 where
-  pub number : n ≡ length cs
-  pub kinds : kind ≡ sets kind₀ 0 (map kind_of cs)
-  pub keys : key ≡ sets key₀ 0 (map key_of cs)
-  pub longs : long ≡ sets long₀ 0 (map length_of cs)
-  pub given : gives ≡ sets gives₀ 0 (map preference_of cs)
+-- the clause that a value of the code's struct is
+abbrev pub clause_of : code.Clause → Clause
+clause_of c = scoped c.scope c.preference
 
 -- ---- sessions
 

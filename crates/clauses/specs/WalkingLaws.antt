@@ -1,21 +1,22 @@
 -- The equations by which sessions and clauses are walked, and that each walk goes on and stays within the file.
 use Prim.Native.Nat.{ℕ, zero, suc, ◌+◌, ◌-◌, ◌≤◌, ◌<◌}
 use native.Mathlib.Omega.{arith}
-use Rattle.std.specs.Prelude.{◌≡◌, ◌≢◌, ◌&&◌, ◌||◌, get_or, leb, eqb}
+use Rattle.std.specs.Prelude.{◌≡◌, ◌≢◌, ◌&&◌, get_or, leb, eqb, if◌then◌else◌, Some, None}
 use Rattle.std.proofs.Math.Path.{refl, sym, ap, ap₂}
-use Rattle.std.proofs.Common.{◌∙◌, subst, true≢false, leb-true, leb-false, ne_eqb, eqb-true}
+use Rattle.std.proofs.Common.{◌∙◌, subst, leb-true, leb-false, ne_eqb, eqb-true}
 use Rattle.std.proofs.Math.Bool.{Bool, true, false, cond, and-false}
 use mathlib.Core.List.{List, [], ◌∷◌, ◌++◌}
 use Rattle.std.proofs.Math.ListN.{length, length-append, get_or-eq_default}
 use Rattle.std.proofs.lemmas.Bool.{lt-leb}
 use Rattle.wire.specs.Numbers.{number_at}
-use Rattle.wire.specs.NumbersLaws.{number_1}
 use Rattle.model.proofs.RowLaws.{by, both}
 use Rattle.snapshot.specs.Records.{size, written, values_at}
 use Rattle.policy.specs.Policy.{Clause, exact, direct, any, exact_form, direct_form, any_form, clause_form, clause_fields, clauses_bytes}
 use Rattle.policy.specs.Reading.{exact_clause, direct_clause, any_clause}
 use Rattle.policy.specs.Rewriting.{preference_of}
-use Rattle.clauses.specs.Walking.{walk, clause_at, size_at, clause_kind, is_clause, clauses_from, behind_clauses, clause_by, length_at, kind_of, key_of, length_of, Parts, is_session, named_at, session_by, sessions_from}
+use Rattle.clauses.specs.declared.Scope.{Scope}
+use Rattle.clauses.specs.declared.Scope.TheVariants.{Prefix, Direct, All}
+use Rattle.clauses.specs.Walking.{walk, clause_at, size_at, clause_kind, is_clause, clauses_from, behind_clauses, scoped, is_session, named_at, session_by, sessions_from}
 
 -- ---- the count of a walk does not matter
 
@@ -72,48 +73,43 @@ module _ (bs : List ℕ) (at : ℕ) where
       go false true = ap (number_at 4 bs) (let e : at + 5 ≡ at + 9 - 4 = omega arith in e)
       go false false = ap (number_at 4 bs) (let e : at + 1 ≡ at + 5 - 4 = omega arith in e)
 
-  -- what stands there is of that clause; n is the place behind it
-  pub clause_parts : {kind key long gives n : ℕ} → clause_kind (get_or bs at 0) ≡ true → kind ≡ number_at 1 bs at → key ≡ number_at 4 bs (at + 1) → long ≡ length_at bs at
-      → n ≡ at + size_at bs at → gives ≡ number_at 4 bs (n - 4) → Parts (clause_at bs at) kind key long gives
-  unfolding clause_at
-  clause_parts known e1 e2 e3 s e4 = record {
-    kinds = e1 ∙ number_1 bs at ∙ its_kind (eqb (get_or bs at 0) 2) (eqb (get_or bs at 0) 3) refl refl;
-    keys = e2 ∙ its_key (eqb (get_or bs at 0) 2) (eqb (get_or bs at 0) 3);
-    longs = e3 ∙ its_length (eqb (get_or bs at 0) 2) (eqb (get_or bs at 0) 3);
-    given = e4 ∙ ap (λ (k : ℕ). number_at 4 bs (k - 4)) s ∙ sym preference_last;
-  }
-    where
-      of : Bool → Bool → Clause
-      of a b = cond a (exact_clause (values_at exact_form bs at)) (cond b (direct_clause (values_at direct_form bs at)) (any_clause (values_at any_form bs at)))
+  -- for the code, which has the kind and the values in hand: how many bytes,
+  size_of : {c : Clause} → clause_at bs at ≡ c → size_at bs at ≡ size (clause_form c)
+  size_of e = ap (λ (c : Clause). size (clause_form c)) e
 
-      last : (k : ℕ) (a b : Bool) → a ≡ false → b ≡ false → (a || b || eqb k 4) ≡ true → k ≡ 4
-      last k true b e f h = absurd (true≢false e)
-      last k false true e f h = absurd (true≢false f)
-      last k false false e f h = eqb-true k 4 h
+  pub size_exact : get_or bs at 0 ≡ 2 → size_at bs at ≡ 10
+  size_exact k = size_of (clause_exact k)
 
-      its_kind : (a b : Bool) → eqb (get_or bs at 0) 2 ≡ a → eqb (get_or bs at 0) 3 ≡ b → get_or bs at 0 ≡ kind_of (of a b)
-      its_kind true b e f = eqb-true (get_or bs at 0) 2 e
-      its_kind false true e f = eqb-true (get_or bs at 0) 3 f
-      its_kind false false e f = last (get_or bs at 0) (eqb (get_or bs at 0) 2) (eqb (get_or bs at 0) 3) e f known
+  pub size_direct : get_or bs at 0 ≡ 3 → size_at bs at ≡ 9
+  size_direct k = size_of (clause_direct k)
 
-      its_key : (a b : Bool) → number_at 4 bs (at + 1) ≡ key_of (of a b)
-      its_key true b = refl
-      its_key false true = refl
-      its_key false false = refl
+  pub size_any : get_or bs at 0 ≡ 4 → size_at bs at ≡ 5
+  size_any k = size_of (clause_any (omega arith) (omega arith))
 
-      its_length : (a b : Bool) → cond a (number_at 1 bs (at + 5)) 0 ≡ length_of (of a b)
-      its_length true b = refl
-      its_length false true = refl
-      its_length false false = refl
+  -- whether there are so many, where a clause of a kind would have so many bytes
+  pub sized : {k n : ℕ} → get_or bs at 0 ≡ k → size_at bs at ≡ n
+      → (if clause_kind k && leb (at + n) (length bs) then Some n else None) ≡ (if is_clause bs at then Some (size_at bs at) else None)
+  sized e s i = if clause_kind (sym e i) && leb (at + sym s i) (length bs) then Some (sym s i) else None
 
--- and the clause is that of its parts
-pub parts_by : (c : Clause) {kind key long gives : ℕ} → Parts c kind key long gives → clause_by kind key long gives ≡ c
-parts_by c p = (λ i. clause_by (p.kinds i) (p.keys i) (p.longs i) (p.given i)) ∙ own c
-  where
-    own : (c : Clause) → clause_by (kind_of c) (key_of c) (length_of c) (preference_of c) ≡ c
-    own (exact address bits preference) = refl
-    own (direct asn preference) = refl
-    own (any preference) = refl
+  -- and the clause: n is the number of its bytes
+  module _ {p n : ℕ} (s : n ≡ size_at bs at) (e : p ≡ number_at 4 bs (at + n - 4)) where
+    its_last : p ≡ preference_of (clause_at bs at)
+    its_last = e ∙ ap (λ (m : ℕ). number_at 4 bs (at + m - 4)) s ∙ sym preference_last
+
+    pub exact_taken : {scope : Scope} {a b : ℕ} → get_or bs at 0 ≡ 2 → scope ≡ Prefix a b → a ≡ number_at 4 bs (at + 1) → b ≡ number_at 1 bs (at + 5) → scoped scope p ≡ clause_at bs at
+    exact_taken k is x y =
+        let last = its_last ∙ ap preference_of (clause_exact k) in
+        ap (λ (scope : Scope). scoped scope p) is ∙ (λ i. exact (x i) (y i) (last i)) ∙ sym (clause_exact k)
+
+    pub direct_taken : {scope : Scope} {a : ℕ} → get_or bs at 0 ≡ 3 → scope ≡ Direct a → a ≡ number_at 4 bs (at + 1) → scoped scope p ≡ clause_at bs at
+    direct_taken k is x =
+        let last = its_last ∙ ap preference_of (clause_direct k) in
+        ap (λ (scope : Scope). scoped scope p) is ∙ (λ i. direct (x i) (last i)) ∙ sym (clause_direct k)
+
+    pub any_taken : {scope : Scope} → get_or bs at 0 ≢ 2 → get_or bs at 0 ≢ 3 → scope ≡ All → scoped scope p ≡ clause_at bs at
+    any_taken no2 no3 is =
+        let last = its_last ∙ ap preference_of (clause_any no2 no3) in
+        ap (λ (scope : Scope). scoped scope p) is ∙ (λ i. any (last i)) ∙ sym (clause_any no2 no3)
 
 -- a clause has 5 to 10 bytes
 pub size_bounds : (c : Clause) → (5 ≤ size (clause_form c)) × (size (clause_form c) ≤ 10)
@@ -125,10 +121,6 @@ pub clause_written : (c : Clause) → length (written (clause_form c) (clause_fi
 clause_written (exact address bits preference) = refl
 clause_written (direct asn preference) = refl
 clause_written (any preference) = refl
-
--- its kind is one of a clause
-pub clause_known : (bs : List ℕ) (at : ℕ) → is_clause bs at ≡ true → clause_kind (get_or bs at 0) ≡ true
-clause_known bs at e = (both (clause_kind (get_or bs at 0)) (leb (at + size_at bs at) (length bs)) e).0
 
 -- it stands there whole
 pub clause_whole : (bs : List ℕ) (at : ℕ) → is_clause bs at ≡ true → at + size_at bs at ≤ length bs

@@ -1,10 +1,10 @@
-// A policy file that was judged sound is walked again to apply it: its sessions, their clauses taken apart, and the first that fits.
+// A policy file that was judged sound is walked again to apply it: its sessions, their clauses, and the first that fits.
 #![tactic(auto)]
 
-ghost use Rattle.std.specs.Prelude.{◌≡◌, true, ◌+◌, ◌≤◌, length, take};
+ghost use Rattle.std.specs.Prelude.{◌≡◌, true, ◌≤◌, length, map, take, drop, if◌then◌else◌, Some, None};
 ghost use Rattle.policy.specs.Policy.{most_clauses};
 ghost use Rattle.policy.specs.Rewriting.{fits, preferred};
-ghost use Rattle.clauses.specs.Walking.{clause_at, size_at, length_at, is_clause, clauses_from, behind_clauses, clause_by, apart, Wide, is_session, named_at, Parts, Apart};
+ghost use Rattle.clauses.specs.Walking.{clause_at, size_at, is_clause, clauses_from, behind_clauses, clause_of, is_session, named_at};
 
 // A session's name, whether MED is set to 0 on it, and where its first clause stands.
 #[derive(Clone, Copy)]
@@ -15,13 +15,28 @@ pub struct Named {
     pub first: usize,
 }
 
-// A clause taken apart: its kind, its address or AS, its prefix length, and the preference that it gives.
+// The routes that a clause is for: those of one prefix, those whose path is one AS alone, or all.
 #[derive(Clone, Copy)]
-struct Row {
-    kind: u32,
-    key: u32,
-    long: u32,
-    gives: u32,
+pub enum Scope {
+    Prefix { address: u32, bits: u32 },
+    Direct { asn: u32 },
+    All,
+}
+
+// A clause, and the preference that it gives.
+#[derive(Clone, Copy)]
+pub struct Clause {
+    pub scope: Scope,
+    pub preference: u32,
+}
+
+// What clauses look at of a route: its prefix, the number of ASes in its path, and its neighbour.
+#[derive(Clone, Copy)]
+pub struct Announced {
+    pub address: u32,
+    pub bits: u32,
+    pub path: u32,
+    pub neighbour: u32,
 }
 
 // The bytes of a preference, with which each clause ends.
@@ -30,154 +45,100 @@ const PREFERENCE_SIZE: usize = 4;
 // The most clauses that are taken apart.
 const MOST_CLAUSES: usize = policy::MOST_CLAUSES as usize;
 
-// Whether a session's record stands at a place.
-pub fn is_session(policy: &[u8], at: usize) -> bool
+// The session whose whole record stands at a place.
+pub fn session_at(policy: &[u8], at: usize) -> Option<Named>
     requires { at ≤ length policy.now }
-    ensures { result ≡ is_session policy.now at }
-{
-    let kind = cursor::kind_at(policy, at);
-    (kind == 1) & (at + policy::SESSION_SIZE <= policy.len())
-}
-
-// The session at a place.
-pub fn session_at(policy: &[u8], at: usize) -> Named
-    requires { is_session policy.now at ≡ true }
-    ensures { result ≡ named_at policy.now at }
+    ensures { result ≡ (if is_session policy.now at then Some (named_at policy.now at) else None) }
 {
     let behind = at + policy::SESSION_SIZE;
+    if (cursor::kind_at(policy, at) != 1) | (policy.len() < behind) {
+        return None;
+    }
     let zero = cursor::kind_at(policy, behind) == 5;
-    Named {
+    Some(Named {
         router: wire::get8(policy, at + 1),
         peer: wire::get32(policy, at + 2),
         zero,
         first: behind + zero as usize * policy::ZERO_SIZE,
-    }
+    })
 }
 
-// The bytes of the clause at a place.
-fn clause_size(policy: &[u8], at: usize) -> usize
-    ensures { result ≡ size_at policy.now at }
-{
-    let kind = cursor::kind_at(policy, at);
-    if kind == 2 {
-        return policy::EXACT_SIZE;
-    }
-    if kind == 3 {
-        return policy::DIRECT_SIZE;
-    }
-    policy::ANY_SIZE
-}
-
-// Whether a clause's record stands at a place.
-fn is_clause(policy: &[u8], at: usize) -> bool
+// The bytes of the clause whose whole record stands at a place.
+fn clause_size(policy: &[u8], at: usize) -> Option<usize>
     requires { at ≤ length policy.now }
-    ensures { result ≡ is_clause policy.now at }
+    ensures { result ≡ (if is_clause policy.now at then Some (size_at policy.now at) else None) }
 {
-    let kind = cursor::kind_at(policy, at);
-    let known = (kind == 2) | (kind == 3) | (kind == 4);
-    known & (at + clause_size(policy, at) <= policy.len())
+    let size = match cursor::kind_at(policy, at) {
+        2 => policy::EXACT_SIZE,
+        3 => policy::DIRECT_SIZE,
+        4 => policy::ANY_SIZE,
+        _ => return None,
+    };
+    (at + size <= policy.len()).then_some(size)
 }
 
-// The prefix length of the clause at a place, where it is one for a prefix.
-fn length_at(policy: &[u8], at: usize) -> u32
-    requires { is_clause policy.now at ≡ true }
-    ensures { result ≡ length_at policy.now at }
+// The clause at a place, of so many bytes.
+fn clause_at(policy: &[u8], at: usize, size: usize) -> Clause
+    requires { (is_clause policy.now at ≡ true) × (size ≡ size_at policy.now at) }
+    ensures { clause_of result ≡ clause_at policy.now at }
 {
-    if policy[at] == 2 {
-        return wire::get8(policy, at + 5);
-    }
-    0
-}
-
-// The clause at a place, that ends before the next, taken apart. Every clause has four bytes behind its kind.
-fn row_at(policy: &[u8], at: usize, next: usize) -> Row
-    requires { (is_clause policy.now at ≡ true) × (next ≡ at + size_at policy.now at) }
-    ensures { Parts (clause_at policy.now at) result.kind result.key result.long result.gives }
-{
-    Row {
-        kind: wire::get8(policy, at),
-        key: wire::get32(policy, at + 1),
-        long: length_at(policy, at),
-        gives: wire::get32(policy, next - PREFERENCE_SIZE),
+    let scope = match policy[at] {
+        2 => Scope::Prefix {
+            address: wire::get32(policy, at + 1),
+            bits: wire::get8(policy, at + 5),
+        },
+        3 => Scope::Direct {
+            asn: wire::get32(policy, at + 1),
+        },
+        _ => Scope::All,
+    };
+    Clause {
+        scope,
+        preference: wire::get32(policy, at + size - PREFERENCE_SIZE),
     }
 }
 
 // Takes the clauses from a place on apart, as many as a session may have, and says how many: so that a session's routes need not walk
 // them in the file's bytes, where each place is known only from the kind before it.
-pub fn take_apart(
-    policy: &[u8],
-    at: usize,
-    kind: &mut [u32],
-    key: &mut [u32],
-    long: &mut [u32],
-    gives: &mut [u32],
-) -> usize
-    requires { (at ≤ length policy.now) × Wide most_clauses kind.old key.old long.old gives.old }
-    ensures { (apart kind.new key.new long.new gives.new result ≡ take most_clauses (clauses_from policy.now at)) × (result ≤ most_clauses)
-        × Apart (take most_clauses (clauses_from policy.now at)) kind.old key.old long.old gives.old result kind.new key.new long.new gives.new }
+pub fn take_apart(policy: &[u8], at: usize, clauses: &mut [Clause]) -> usize
+    requires inside { at ≤ length policy.now }
+    requires room { most_clauses ≤ length clauses.old }
+    ensures few { result ≤ most_clauses }
+    ensures taken { map clause_of (take result clauses.new) ≡ take most_clauses (clauses_from policy.now at) }
+    ensures others { drop result clauses.new ≡ drop result clauses.old }
 {
     let mut at = at;
-    let mut n = 0;
-    while n < MOST_CLAUSES {
-        if !is_clause(policy, at) {
+    for (n, room) in clauses[..MOST_CLAUSES].iter_mut().enumerate() {
+        let Some(size) = clause_size(policy, at) else {
             return n;
-        }
-        let next = at + clause_size(policy, at);
-        let row = row_at(policy, at, next);
-        kind[n] = row.kind;
-        key[n] = row.key;
-        long[n] = row.long;
-        gives[n] = row.gives;
-        at = next;
-        n += 1;
+        };
+        *room = clause_at(policy, at, size);
+        at += size;
     }
-    n
+    MOST_CLAUSES
 }
 
-// Whether a clause, whatever it gives, fits a route of a prefix, with a path of so many ASes from a neighbour.
-fn fits_row(
-    kind: u32,
-    key: u32,
-    long: u32,
-    address: u32,
-    bits: u32,
-    path: u32,
-    neighbour: u32,
-) -> bool
-    ensures { result ≡ fits (clause_by kind key long 0) address bits path neighbour }
-{
-    if kind == 2 {
-        return (key == address) & (long == bits);
+impl Clause {
+    // Whether it fits a route.
+    fn fits(&self, route: &Announced) -> bool
+        ensures { result ≡ fits (clause_of self.now) route.now.address route.now.bits route.now.path route.now.neighbour }
+    {
+        match self.scope {
+            Scope::Prefix { address, bits } => (address == route.address) & (bits == route.bits),
+            Scope::Direct { asn } => (route.path == 1) & (asn == route.neighbour),
+            Scope::All => true,
+        }
     }
-    if kind == 3 {
-        return (path == 1) & (key == neighbour);
-    }
-    true
 }
 
-// The preference that clauses, taken apart, give to a route of a prefix, with a path of so many ASes from a neighbour.
-pub fn preferred(
-    kind: &[u32],
-    key: &[u32],
-    long: &[u32],
-    gives: &[u32],
-    count: usize,
-    address: u32,
-    bits: u32,
-    path: u32,
-    neighbour: u32,
-) -> u32
-    requires { Wide count kind.now key.now long.now gives.now }
-    ensures { result ≡ preferred (apart kind.now key.now long.now gives.now count) address bits path neighbour }
+// The preference that clauses give to a route: that of the first that fits.
+pub fn preferred(clauses: &[Clause], route: &Announced) -> u32
+    ensures { result ≡ preferred (map clause_of clauses.now) route.now.address route.now.bits route.now.path route.now.neighbour }
 {
-    let mut k = 0;
-    while k < count {
-        if fits_row(kind[k], key[k], long[k], address, bits, path, neighbour) {
-            return gives[k];
-        }
-        k += 1;
-    }
-    policy::USUAL
+    clauses
+        .iter()
+        .find(|c| c.fits(route))
+        .map_or(policy::USUAL, |c| c.preference)
 }
 
 // The place behind the clauses that stand from a place on.
@@ -186,8 +147,8 @@ pub fn behind_clauses(policy: &[u8], at: usize) -> usize
     ensures { (result ≡ behind_clauses policy.now at) × (result ≤ length policy.now) }
 {
     let mut at = at;
-    while is_clause(policy, at) {
-        at += clause_size(policy, at);
+    while let Some(size) = clause_size(policy, at) {
+        at += size;
     }
     at
 }

@@ -1,39 +1,33 @@
 -- What the cursor's methods answer, as the definitions of the snapshot have it.
-use Rattle.std.specs.Prelude.{ℕ, ◌+◌, ◌*◌, ◌≡◌, Bool, false, cond, not, ◌&&◌, List, [], ◌∷◌, ◌++◌, length, get_or, ltb, eqb}
+use Rattle.std.specs.Prelude.{ℕ, ◌+◌, ◌*◌, ◌≡◌, Bool, false, cond, not, ◌&&◌, List, [], ◌∷◌, ◌++◌, length, get_or, ltb, eqb, Result, Ok, Err}
 use Rattle.wire.specs.Numbers.{number_at}
+use Rattle.refusal.specs.declared.Refusal.{Refusal}
 use Rattle.refusal.specs.declared.Refusal.TheVariants.{Cut, Kind, Place, Full, Field, Order, Tail}
-use Rattle.refusal.specs.Numbers.{Said, refuses, gives}
+use Rattle.refusal.specs.declared.Refused.{Refused}
+use Rattle.refusal.specs.Numbers.{Said, refuses, gives, said_by}
 use Rattle.snapshot.specs.declared.Route.{Route}
-use Rattle.model.specs.Rows.{table}
+use Rattle.model.specs.Rows.{some, table}
 use Rattle.model.specs.Decision as model
 use Rattle.snapshot.specs.Ranges.{none, prefix_tests, route_tests, rises, rises_route}
 use Rattle.snapshot.specs.Records.{Form, forms, of_kind, known, sum, size, only, router_form, prefix_form, route_forms, four_byte, route_form_by, end_form, values_at}
 use Rattle.snapshot.specs.Format.{Pair, Snapshot, routes_in, latest, Check, ◌else◌, judged}
 use Rattle.snapshot.specs.Reading.{record_checks, open_routes, route_of, prefix_room, route_room, end_values}
-use Rattle.cursor.specs.declared.Finding.{Finding}
-use Rattle.cursor.specs.declared.Finding.TheVariants.{Clear, Fault}
-use Rattle.cursor.specs.declared.Body.{Body}
-use Rattle.cursor.specs.declared.Body.TheVariants.{Bytes, Refused}
 use Rattle.cursor.specs.declared.Cursor.{Cursor}
 use Rattle.cursor.specs.declared.Sofar.{Sofar}
 use Rattle.cursor.specs.declared.Network.{Network}
-use Rattle.cursor.specs.declared.Step.{Step}
-use Rattle.cursor.specs.declared.Step.TheVariants as step
-use Rattle.cursor.specs.declared.PrefixStep.{PrefixStep}
-use Rattle.cursor.specs.declared.PrefixStep.TheVariants as prefix_step
-use Rattle.cursor.specs.declared.RouteStep.{RouteStep}
-use Rattle.cursor.specs.declared.RouteStep.TheVariants as route_step
-use Rattle.cursor.specs.declared.EndStep.{EndStep}
-use Rattle.cursor.specs.declared.EndStep.TheVariants as end_step
 
--- what checks find: nothing, or the refusal of the first that fails
-abbrev pub finding : List Check → Finding
-finding [] = Clear
-finding ((b else r) ∷ checks) = cond b (finding checks) (Fault r)
+-- a refusal with its place, as the code has it
+abbrev pub refused_at : ℕ → Refusal → Refused
+refused_at at r = record { refusal = r; place = at }
+
+-- what checks of the record at a place find: nothing, or the refusal of the first that fails
+abbrev pub finding : ℕ → List Check → Result (Unit {0}) Refused
+finding at [] = Ok tt
+finding at ((b else r) ∷ checks) = cond b (finding at checks) (Err (refused_at at r))
 
 -- the length of the body of a kind of a table, or KIND
-abbrev pub body_of : List Form → ℕ → Body
-body_of table k = of_kind table k (λ f. Bytes (sum f.widths)) (Refused Kind)
+abbrev pub body_of : List Form → ℕ → Result ℕ Refusal
+body_of table k = of_kind table k (λ f. Ok (sum f.widths)) (Err Kind)
 
 -- the length of the body of a kind, 0 where it is not known
 abbrev pub body_length : List Form → ℕ → ℕ
@@ -52,9 +46,9 @@ opening_checks table bs at due astray full =
     ∷ []
 
 -- the same checks where the body of the kind is given: after CUT for the kind byte,
-abbrev pub body_checks : Body → List ℕ → ℕ → ℕ → Bool → Bool → List Check
-body_checks (Refused r) bs at due astray full = (false else r) ∷ []
-body_checks (Bytes n) bs at due astray full =
+abbrev pub body_checks : Result ℕ Refusal → List ℕ → ℕ → ℕ → Bool → Bool → List Check
+body_checks (Err r) bs at due astray full = (false else r) ∷ []
+body_checks (Ok n) bs at due astray full =
     (eqb (get_or bs at 0) due else Place)
     ∷ (not astray else Place)
     ∷ (not full else Full)
@@ -62,11 +56,11 @@ body_checks (Bytes n) bs at due astray full =
     ∷ []
 
 -- and with it
-abbrev pub opening_by : Body → List ℕ → ℕ → ℕ → Bool → Bool → List Check
+abbrev pub opening_by : Result ℕ Refusal → List ℕ → ℕ → ℕ → Bool → Bool → List Check
 opening_by body bs at due astray full = (ltb at (length bs) else Cut) ∷ body_checks body bs at due astray full
 
 -- the checks of an end record behind so many records, where the body of the kind is given
-abbrev pub end_by : Body → ℕ → List ℕ → ℕ → List Check
+abbrev pub end_by : Result ℕ Refusal → ℕ → List ℕ → ℕ → List Check
 end_by body records bs at = opening_by body bs at 6 false false ++ end_values records (values_at end_form bs at)
 
 -- the cursor before the first record
@@ -127,6 +121,10 @@ router_place first i = first + size router_form * i
 abbrev pub ids_at : List ℕ → ℕ → ℕ → List ℕ
 ids_at bs first n = table n (λ i. id_at bs (router_place first i))
 
+-- whether an id is one of these
+unfoldable pub given_before : ℕ → List ℕ → Bool
+given_before id ids = some (eqb id) ids
+
 -- the prefix of the record at a place
 abbrev pub network_at : List ℕ → ℕ → Network
 network_at bs at = let v = values_at prefix_form bs at in record { address = get_or v 0 0; bits = get_or v 1 0 }
@@ -163,6 +161,20 @@ route_at bs at four = let v = values_at (route_form_by four) bs at in record {
   peer = get_or v 8 0;
 }
 
+-- what to know with no prefix read
+abbrev pub nothing : ℕ → Sofar
+nothing n = record { routers = n; prefixes = 0; routes = 0; inside = 0; address = 0; bits = 0; router = 0; peer = 0 }
+
+-- what to know with one more prefix
+abbrev pub more_prefix : Sofar → Network → Sofar
+more_prefix k p =
+    record { routers = k.routers; prefixes = k.prefixes + 1; routes = k.routes; inside = 0; address = p.address; bits = p.bits; router = 0; peer = 0 }
+
+-- what to know with one more route
+abbrev pub more_route : Sofar → Route → Sofar
+more_route k r =
+    record { routers = k.routers; prefixes = k.prefixes; routes = k.routes + 1; inside = k.inside + 1; address = k.address; bits = k.bits; router = r.router; peer = r.peer }
+
 -- `k` says what is to be known of the snapshot read so far
 pub record Tells (s : Snapshot) (k : Sofar) : Type 0 where
   pub routers : k.routers ≡ length s.ids
@@ -174,32 +186,31 @@ pub record Tells (s : Snapshot) (k : Sofar) : Type 0 where
   pub beyond : (r : model.Route)
       → latest (λ q. rises_route q r) (open_routes s.prefixes) ≡ not (late_behind k.inside k.router k.peer r.router r.peer)
 
--- ---- the answers in document 01's numbers
+-- ---- the answers in the project's numbers
 
 -- a record was taken: the place of the next cursor and its number of records, then what the record says
 abbrev pub took : Cursor → List ℕ → Said
 took c values = gives (c.at ∷ c.records ∷ values)
 
+-- an answer to a record, where `says` gives the numbers of what the record says
+abbrev pub record_said : {A : Type 0} → (A → List ℕ) → Result (Cursor × A) Refused → Said
+record_said says = said_by (λ t. took t.0 (says t.1))
+
 -- of a record that says one number
-abbrev pub step_said : Step → Said
-step_said (step.Took c n) = took c (n ∷ [])
-step_said (step.Refused r at) = refuses r at
+abbrev pub step_said : Result (Cursor × ℕ) Refused → Said
+step_said = record_said (λ n. n ∷ [])
 
 -- of a prefix: address and length
-abbrev pub prefix_said : PrefixStep → Said
-prefix_said (prefix_step.Took c p) = took c (p.address ∷ p.bits ∷ [])
-prefix_said (prefix_step.Refused r at) = refuses r at
+abbrev pub prefix_said : Result (Cursor × Network) Refused → Said
+prefix_said = record_said (λ p. p.address ∷ p.bits ∷ [])
 
 -- of a route: its fields
-abbrev pub route_said : RouteStep → Said
-route_said (route_step.Took c r) =
-    took c (r.router ∷ r.asn ∷ r.preference ∷ r.path ∷ r.origin ∷ r.mark ∷ r.med ∷ r.nid ∷ r.peer ∷ [])
-route_said (route_step.Refused r at) = refuses r at
+abbrev pub route_said : Result (Cursor × Route) Refused → Said
+route_said = record_said (λ r. r.router ∷ r.asn ∷ r.preference ∷ r.path ∷ r.origin ∷ r.mark ∷ r.med ∷ r.nid ∷ r.peer ∷ [])
 
 -- of the end, which says nothing
-abbrev pub end_said : EndStep → Said
-end_said end_step.Ended = gives []
-end_said (end_step.Refused r at) = refuses r at
+abbrev pub end_said : Result (Unit {0}) Refused → Said
+end_said = said_by (λ _. gives [])
 
 -- what is answered where these checks judge the record at a place: the refusal of the first that fails, or this
 abbrev pub judged_at : ℕ → List Check → Said → Said

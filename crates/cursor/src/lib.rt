@@ -3,16 +3,14 @@
 // this record habit: they go by the body that the file's own table of kinds gives.
 #![tactic(auto)]
 
-ghost use Rattle.std.specs.Prelude.{◌≡◌, cond, [], ◌∷◌, ◌+◌, ◌≤◌, eqb, length, get_or, drop};
-ghost use Rattle.model.specs.Rows.{some};
+ghost use Rattle.std.specs.Prelude.{◌≡◌, cond, [], ◌∷◌, ◌+◌, ◌<◌, ◌≤◌, length, get_or, drop};
+ghost use Rattle.snapshot.specs.Limits.{most_prefixes, most_in_prefix, most_routes};
 ghost use Rattle.snapshot.specs.Plain.{route_is};
 ghost use Rattle.snapshot.specs.Records.{forms, count_form, router_form, distance_form, prefix_form, route_form_by, route_forms, size, form_at, values_at};
-ghost use Rattle.snapshot.specs.Format.{count_checks, router_checks, distance_checks, end_checks};
 ghost use Rattle.snapshot.specs.Reading.{count_record, router_record, distance_record, end_record};
-ghost use Rattle.cursor.specs.declared.Finding.TheVariants.{Fault};
-ghost use Rattle.cursor.specs.declared.Body.TheVariants.{Bytes};
 ghost use Rattle.cursor.specs.Steps.{
   finding,
+  refused_at,
   body_of,
   opening_by,
   opening_checks,
@@ -20,14 +18,16 @@ ghost use Rattle.cursor.specs.Steps.{
   behind,
   after,
   due,
-  prefix_faults,
   route_faults_in,
   prefix_next,
   route_next,
   id_at,
+  given_before,
   router_place,
   ids_at,
   network_at,
+  more_prefix,
+  more_route,
   bits_behind,
   route_behind,
   route_at,
@@ -40,35 +40,21 @@ ghost use Rattle.cursor.specs.Steps.{
   ending,
 };
 
-use refusal::Refusal;
+use refusal::{Refusal, Refused};
 use snapshot::Route;
 
 // The bytes of a route behind its neighbour AS, in both kinds.
 const BEHIND_ASN: usize = 20;
 
-// What a list of checks finds: nothing, or the refusal of the first that fails.
-#[derive(Clone, Copy)]
-pub enum Finding {
-    Clear,
-    Fault(Refusal),
-}
-
-// The length of a body, or the refusal of its kind.
-#[derive(Clone, Copy)]
-pub enum Body {
-    Bytes(usize),
-    Refused(Refusal),
-}
-
 // A place between records, and how many records stand before it.
-#[derive(Clone, Copy)]
+#[derive(Clone, Copy, Default)]
 pub struct Cursor {
     pub at: usize,
     pub records: usize,
 }
 
 // What the prefixes and routes read so far say about the next: how many there are, the latest prefix, and the latest route in it.
-#[derive(Clone, Copy)]
+#[derive(Clone, Copy, Default)]
 pub struct Sofar {
     pub routers: u32,
     pub prefixes: u32,
@@ -87,154 +73,28 @@ pub struct Network {
     pub bits: u32,
 }
 
-// The answer to a record that says one number: a count of routers, a router's id, a distance.
-#[derive(Clone, Copy)]
-pub enum Step {
-    Took(Cursor, u32),
-    Refused(Refusal, usize),
-}
-
-#[derive(Clone, Copy)]
-pub enum PrefixStep {
-    Took(Cursor, Network),
-    Refused(Refusal, usize),
-}
-
-#[derive(Clone, Copy)]
-pub enum RouteStep {
-    Took(Cursor, Route),
-    Refused(Refusal, usize),
-}
-
-#[derive(Clone, Copy)]
-pub enum EndStep {
-    Ended,
-    Refused(Refusal, usize),
-}
-
 // Kinds 0 and 8 to 255 are refused as KIND.
-fn body_length(kind: u8) -> Body
+fn body_length(kind: u8) -> Result<usize, Refusal>
     ensures { result ≡ body_of forms kind }
 {
     match kind {
-        1 => Body::Bytes(1),
-        2 => Body::Bytes(5),
-        3 => Body::Bytes(6),
-        4 => Body::Bytes(5),
-        5 => Body::Bytes(23),
-        6 => Body::Bytes(4),
-        7 => Body::Bytes(25),
-        0 | 8..=255 => Body::Refused(Refusal::Kind),
+        1 => Ok(1),
+        2 => Ok(5),
+        3 => Ok(6),
+        4 => Ok(5),
+        5 => Ok(23),
+        6 => Ok(4),
+        7 => Ok(25),
+        0 | 8..=255 => Err(Refusal::Kind),
     }
-}
-
-// One check before the rest of them.
-pub fn check(holds: bool, refusal: Refusal, rest: Finding) -> Finding
-    ensures { result ≡ cond holds rest (Fault refusal) }
-{
-    if holds { rest } else { Finding::Fault(refusal) }
-}
-
-fn count_faults(n: u32) -> Finding
-    ensures { result ≡ finding (count_checks n) }
-{
-    check(!snapshot::count_bad(n), Refusal::Field, Finding::Clear)
 }
 
 // Whether an id is one of the first `given` ones, which are read where they stand in the input.
 fn twin(input: &[u8], first: usize, given: usize, id: u32) -> bool
     requires { router_place first given ≤ length input.now }
-    ensures { result ≡ some (eqb id) (ids_at input.now first given) }
+    ensures { result ≡ given_before id (ids_at input.now first given) }
 {
-    let mut found = false;
-    let mut i = 0;
-    while (i < given) & !found {
-        found = id == id_at(input, first + snapshot::ROUTER_SIZE * i);
-        i += 1;
-    }
-    found
-}
-
-fn router_faults(
-    input: &[u8],
-    routers: u32,
-    first: usize,
-    given: usize,
-    index: u32,
-    id: u32,
-) -> Finding
-    requires { router_place first given ≤ length input.now }
-    ensures { result ≡ finding (router_checks routers (ids_at input.now first given) index id) }
-{
-    let field = !((routers <= index) | snapshot::id_bad(id));
-    let alone = !twin(input, first, given, id);
-    check(
-        field,
-        Refusal::Field,
-        check(
-            index as usize == given,
-            Refusal::Order,
-            check(alone, Refusal::Twin, Finding::Clear),
-        ),
-    )
-}
-
-fn distance_faults(
-    routers: u32,
-    expected_from: u32,
-    expected_to: u32,
-    from: u32,
-    to: u32,
-    distance: u32,
-) -> Finding
-    ensures { result ≡ finding (distance_checks routers (due expected_from expected_to) from to distance) }
-{
-    let field = !((routers <= from) | (routers <= to) | snapshot::distance_bad(distance));
-    check(
-        field,
-        Refusal::Field,
-        check(
-            from == expected_from,
-            Refusal::Order,
-            check(to == expected_to, Refusal::Order, Finding::Clear),
-        ),
-    )
-}
-
-fn prefix_faults(k: Sofar, p: Network) -> Finding
-    ensures { result ≡ finding (prefix_faults k p.address p.bits) }
-{
-    let field = !snapshot::prefix_bad(p.address, p.bits);
-    let order = !((k.prefixes != 0) & snapshot::late(k.address, k.bits, p.address, p.bits));
-    check(
-        field,
-        Refusal::Field,
-        check(order, Refusal::Order, Finding::Clear),
-    )
-}
-
-// Of a route in a record of a kind: the AS tells which kind it is to be.
-fn route_faults(k: Sofar, kind: u8, r: Route) -> Finding
-    ensures { result ≡ finding (route_faults_in k kind (route_is r)) }
-{
-    let chosen = kind == snapshot::route_kind(snapshot::four_byte(r.asn));
-    let field = !snapshot::route_bad(k.routers, r);
-    let order = !((k.inside != 0) & snapshot::late(k.router, k.peer, r.router, r.peer));
-    check(
-        chosen,
-        Refusal::Field,
-        check(
-            field,
-            Refusal::Field,
-            check(order, Refusal::Order, Finding::Clear),
-        ),
-    )
-}
-
-fn end_faults(records: usize, number: u32) -> Finding
-    ensures { result ≡ finding (end_checks records number) }
-{
-    check(number as usize == records, Refusal::Count, Finding::Clear)
+    (0..given).any(|i| id == id_at(input, first + snapshot::ROUTER_SIZE * i))
 }
 
 // The id of the router record at a place.
@@ -311,34 +171,76 @@ pub fn kind_at(input: &[u8], at: usize) -> u8
     0
 }
 
-impl Cursor {
-    // The checks that every record has before its values: CUT for the kind byte, KIND, PLACE, FULL, CUT for the body. Given is the body
-    // of the kind that stands there.
-    pub fn opens(self, input: &[u8], body: Body, due: u8, astray: bool, full: bool) -> Finding
-        ensures { result ≡ finding (opening_by body input.now self.at due astray full) }
+impl Sofar {
+    // With one more prefix, which has no routes yet.
+    pub fn with_prefix(self, p: Network) -> Sofar
+        requires { self.prefixes < most_prefixes }
+        ensures { result ≡ more_prefix self p }
     {
-        let at = self.at;
-        if input.len() <= at {
-            return Finding::Fault(Refusal::Cut);
-        }
-        let kind = input[at];
-        match body {
-            Body::Refused(r) => Finding::Fault(r),
-            Body::Bytes(n) => {
-                let whole = n < input.len() - at;
-                let cut = check(whole, Refusal::Cut, Finding::Clear);
-                check(
-                    kind == due,
-                    Refusal::Place,
-                    check(!astray, Refusal::Place, check(!full, Refusal::Full, cut)),
-                )
-            }
+        Sofar {
+            prefixes: self.prefixes + 1,
+            inside: 0,
+            address: p.address,
+            bits: p.bits,
+            router: 0,
+            peer: 0,
+            ..self
         }
     }
 
+    // With one more route of the latest prefix.
+    pub fn with_route(self, r: Route) -> Sofar
+        requires { (self.routes < most_routes) × (self.inside < most_in_prefix) }
+        ensures { result ≡ more_route self r }
+    {
+        Sofar {
+            routes: self.routes + 1,
+            inside: self.inside + 1,
+            router: r.router,
+            peer: r.peer,
+            ..self
+        }
+    }
+}
+
+impl Cursor {
+    // One check of the record here.
+    pub fn demand(self, holds: bool, refusal: Refusal) -> Result<(), Refused>
+        ensures { result ≡ cond holds (Ok tt) (Err (refused_at self.at refusal)) }
+    {
+        if holds {
+            return Ok(());
+        }
+        Err(Refused {
+            refusal,
+            place: self.at,
+        })
+    }
+
+    // The checks that every record has before its values: CUT for the kind byte, KIND, PLACE, FULL, CUT for the body. Given is the body
+    // of the kind that stands there.
+    pub fn opens(
+        self,
+        input: &[u8],
+        body: Result<usize, Refusal>,
+        due: u8,
+        astray: bool,
+        full: bool,
+    ) -> Result<(), Refused>
+        ensures { result ≡ finding self.at (opening_by body input.now self.at due astray full) }
+    {
+        let place = self.at;
+        self.demand(place < input.len(), Refusal::Cut)?;
+        let size = body.map_err(|refusal| Refused { refusal, place })?;
+        self.demand(kind_at(input, place) == due, Refusal::Place)?;
+        self.demand(!astray, Refusal::Place)?;
+        self.demand(!full, Refusal::Full)?;
+        self.demand(size < input.len() - place, Refusal::Cut)
+    }
+
     // The opening of a record of a snapshot.
-    fn opening(self, input: &[u8], due: u8, astray: bool, full: bool) -> Finding
-        ensures { result ≡ finding (opening_checks forms input.now self.at due astray full) }
+    fn opening(self, input: &[u8], due: u8, astray: bool, full: bool) -> Result<(), Refused>
+        ensures { result ≡ finding self.at (opening_checks forms input.now self.at due astray full) }
     {
         let body = body_length(kind_at(input, self.at));
         self.opens(input, body, due, astray, full)
@@ -356,134 +258,127 @@ impl Cursor {
     }
 
     // Kind 1: the number of routers.
-    pub fn count(self, input: &[u8]) -> Step
+    #[tactic(auto, using(crate::specs::StepsLaws::count_found))]
+    pub fn count(self, input: &[u8]) -> Result<(Cursor, u32), Refused>
         requires { self.records ≤ self.at }
         ensures { step_said result ≡ judged_at self.at (count_record (drop self.at input.now))
             (took (after self count_form) (values_at count_form input.now self.at)) }
     {
-        let at = self.at;
-        match self.opening(input, 1, false, false) {
-            Finding::Fault(f) => Step::Refused(f, at),
-            Finding::Clear => {
-                let n = wire::get8(input, at + 1);
-                match count_faults(n) {
-                    Finding::Fault(f) => Step::Refused(f, at),
-                    Finding::Clear => Step::Took(self.past(snapshot::COUNT_SIZE), n),
-                }
-            }
-        }
+        self.opening(input, 1, false, false)?;
+        let n = wire::get8(input, self.at + 1);
+        self.demand(!snapshot::count_bad(n), Refusal::Field)?;
+        Ok((self.past(snapshot::COUNT_SIZE), n))
     }
 
     // Kind 2: the id of the router whose index is due, where `given` router records stand before it, from a place on.
-    pub fn router(self, input: &[u8], routers: u32, first: usize, given: usize) -> Step
+    #[tactic(auto, using(crate::specs::StepsLaws::router_found))]
+    pub fn router(
+        self,
+        input: &[u8],
+        routers: u32,
+        first: usize,
+        given: usize,
+    ) -> Result<(Cursor, u32), Refused>
         requires { (self.records ≤ self.at) × (self.at ≡ router_place first given) }
         ensures { step_said result ≡ judged_at self.at (router_record routers (ids_at input.now first given) (drop self.at input.now))
             (took (after self router_form) (get_or (values_at router_form input.now self.at) 1 0 ∷ [])) }
     {
-        let at = self.at;
-        match self.opening(input, 2, false, false) {
-            Finding::Fault(f) => Step::Refused(f, at),
-            Finding::Clear => {
-                let id = id_at(input, at);
-                match router_faults(input, routers, first, given, wire::get8(input, at + 1), id) {
-                    Finding::Fault(f) => Step::Refused(f, at),
-                    Finding::Clear => Step::Took(self.past(snapshot::ROUTER_SIZE), id),
-                }
-            }
-        }
+        self.opening(input, 2, false, false)?;
+        let index = wire::get8(input, self.at + 1);
+        let id = id_at(input, self.at);
+        let field = !((routers <= index) | snapshot::id_bad(id));
+        self.demand(field, Refusal::Field)?;
+        self.demand(index as usize == given, Refusal::Order)?;
+        self.demand(!twin(input, first, given, id), Refusal::Twin)?;
+        Ok((self.past(snapshot::ROUTER_SIZE), id))
     }
 
     // Kind 3: the distance of the pair that is due.
-    pub fn distance(self, input: &[u8], routers: u32, from: u32, to: u32) -> Step
+    #[tactic(auto, using(crate::specs::StepsLaws::distance_found))]
+    pub fn distance(
+        self,
+        input: &[u8],
+        routers: u32,
+        due_from: u32,
+        due_to: u32,
+    ) -> Result<(Cursor, u32), Refused>
         requires { self.records ≤ self.at }
-        ensures { step_said result ≡ judged_at self.at (distance_record routers (due from to) (drop self.at input.now))
+        ensures { step_said result ≡ judged_at self.at (distance_record routers (due due_from due_to) (drop self.at input.now))
             (took (after self distance_form) (get_or (values_at distance_form input.now self.at) 2 0 ∷ [])) }
     {
-        let at = self.at;
-        match self.opening(input, 3, false, false) {
-            Finding::Fault(f) => Step::Refused(f, at),
-            Finding::Clear => {
-                let distance = wire::get32(input, at + 3);
-                match distance_faults(
-                    routers,
-                    from,
-                    to,
-                    wire::get8(input, at + 1),
-                    wire::get8(input, at + 2),
-                    distance,
-                ) {
-                    Finding::Fault(f) => Step::Refused(f, at),
-                    Finding::Clear => Step::Took(self.past(snapshot::DISTANCE_SIZE), distance),
-                }
-            }
-        }
+        self.opening(input, 3, false, false)?;
+        let from = wire::get8(input, self.at + 1);
+        let to = wire::get8(input, self.at + 2);
+        let distance = wire::get32(input, self.at + 3);
+        let field = !((routers <= from) | (routers <= to) | snapshot::distance_bad(distance));
+        self.demand(field, Refusal::Field)?;
+        self.demand(from == due_from, Refusal::Order)?;
+        self.demand(to == due_to, Refusal::Order)?;
+        Ok((self.past(snapshot::DISTANCE_SIZE), distance))
     }
 
     // Kind 4: a prefix, behind what was read so far.
-    pub fn prefix(self, input: &[u8], k: Sofar) -> PrefixStep
+    #[tactic(auto, using(crate::specs::StepsLaws::prefix_found))]
+    pub fn prefix(self, input: &[u8], k: Sofar) -> Result<(Cursor, Network), Refused>
         requires { self.records ≤ self.at }
         ensures { prefix_said result ≡ judged_at self.at (prefix_next k (drop self.at input.now))
             (took (after self prefix_form) (values_at prefix_form input.now self.at)) }
     {
-        let at = self.at;
-        match self.opening(input, 4, false, snapshot::MOST_PREFIXES <= k.prefixes) {
-            Finding::Fault(f) => PrefixStep::Refused(f, at),
-            Finding::Clear => {
-                let p = network_at(input, at);
-                match prefix_faults(k, p) {
-                    Finding::Fault(f) => PrefixStep::Refused(f, at),
-                    Finding::Clear => PrefixStep::Took(self.past(snapshot::PREFIX_SIZE), p),
-                }
-            }
-        }
+        self.opening(input, 4, false, snapshot::MOST_PREFIXES <= k.prefixes)?;
+        let p = network_at(input, self.at);
+        self.demand(!snapshot::prefix_bad(p.address, p.bits), Refusal::Field)?;
+        let order = !((k.prefixes != 0) & snapshot::late(k.address, k.bits, p.address, p.bits));
+        self.demand(order, Refusal::Order)?;
+        Ok((self.past(snapshot::PREFIX_SIZE), p))
+    }
+
+    // The values of a route in a record of a kind: the AS tells which kind it is to be.
+    fn route_values(self, k: Sofar, kind: u8, r: Route) -> Result<(), Refused>
+        ensures { result ≡ finding self.at (route_faults_in k kind (route_is r)) }
+    {
+        let chosen = kind == snapshot::route_kind(snapshot::four_byte(r.asn));
+        let order = !((k.inside != 0) & snapshot::late(k.router, k.peer, r.router, r.peer));
+        self.demand(chosen, Refusal::Field)?;
+        self.demand(!snapshot::route_bad(k.routers, r), Refusal::Field)?;
+        self.demand(order, Refusal::Order)
     }
 
     // Kinds 5 and 7: a route, behind what was read so far.
-    pub fn route(self, input: &[u8], k: Sofar) -> RouteStep
+    #[tactic(auto, using(crate::specs::StepsLaws::route_found))]
+    pub fn route(self, input: &[u8], k: Sofar) -> Result<(Cursor, Route), Refused>
         requires { self.records ≤ self.at }
         ensures { route_said result ≡ judged_at self.at (route_next k (drop self.at input.now))
             (took (after self (form_at route_forms input.now self.at)) (values_at (form_at route_forms input.now self.at) input.now self.at)) }
     {
-        let at = self.at;
-        let four = kind_at(input, at) == 7;
+        let four = kind_at(input, self.at) == 7;
         let kind = snapshot::route_kind(four);
         let full = (snapshot::MOST_IN_PREFIX <= k.inside) | (snapshot::MOST_ROUTES <= k.routes);
-        match self.opening(input, kind, k.prefixes == 0, full) {
-            Finding::Fault(f) => RouteStep::Refused(f, at),
-            Finding::Clear => {
-                let r = route_at(input, at, four);
-                match route_faults(k, kind, r) {
-                    Finding::Fault(f) => RouteStep::Refused(f, at),
-                    Finding::Clear => RouteStep::Took(self.past(snapshot::route_size(four)), r),
-                }
-            }
-        }
+        self.opening(input, kind, k.prefixes == 0, full)?;
+        let r = route_at(input, self.at, four);
+        self.route_values(k, kind, r)?;
+        Ok((self.past(snapshot::route_size(four)), r))
     }
 
     // Kind 6 in every file: the end, with a body of 4 bytes, and then nothing. Given is the body of the kind that stands there.
-    pub fn ends(self, input: &[u8], body: Body) -> EndStep
-        requires { get_or input.now self.at 0 ≡ 6 → body ≡ Bytes 4 }
+    #[tactic(auto, using(crate::specs::StepsLaws::end_found))]
+    pub fn ends(self, input: &[u8], body: Result<usize, Refusal>) -> Result<(), Refused>
+        requires { get_or input.now self.at 0 ≡ 6 → body ≡ Ok 4 }
         ensures { end_said result ≡ judged_at self.at (end_by body self.records input.now self.at)
             (ending input.now (self.at + 5)) }
     {
-        let at = self.at;
-        match self.opens(input, body, 6, false, false) {
-            Finding::Fault(f) => EndStep::Refused(f, at),
-            Finding::Clear => match end_faults(self.records, wire::get32(input, at + 1)) {
-                Finding::Fault(f) => EndStep::Refused(f, at),
-                Finding::Clear => {
-                    let behind = at + snapshot::END_SIZE;
-                    if behind < input.len() {
-                        return EndStep::Refused(Refusal::Tail, behind);
-                    }
-                    EndStep::Ended
-                }
-            },
-        }
+        self.opens(input, body, 6, false, false)?;
+        let number = wire::get32(input, self.at + 1);
+        self.demand(number as usize == self.records, Refusal::Count)?;
+        let behind = Cursor {
+            at: self.at + snapshot::END_SIZE,
+            ..self
+        };
+        behind.demand(input.len() <= behind.at, Refusal::Tail)
     }
 
     // The end of a snapshot.
-    pub fn end(self, input: &[u8]) -> EndStep
+    #[tactic(auto, using(crate::specs::StepsLaws::end_table_found))]
+    pub fn end(self, input: &[u8]) -> Result<(), Refused>
         ensures { end_said result ≡ judged_at self.at (end_record forms self.records (drop self.at input.now))
             (ending input.now (self.at + 5)) }
     {

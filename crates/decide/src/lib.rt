@@ -1,9 +1,12 @@
-// One prefix decided on lent columns: each router's early and late row, and which routers differ.
+// One prefix decided on a lent mesh: each router's early and late row, and which routers differ.
 #![tactic(auto)]
 
 ghost use Rattle.std.specs.Prelude.{◌≡◌, length};
-ghost use Rattle.model.specs.Columns.{columns, lent_mesh, Placed};
+ghost use Rattle.model.specs.Columns.{Placed};
+ghost use Rattle.rows.specs.Lent.{columns_in, mesh_in};
 ghost use Rattle.decide.specs.Decide.{Decided};
+
+use rows::Mesh;
 
 // The routers whose early and late rows differ: bit r for router r, and how many there are.
 #[derive(Clone, Copy)]
@@ -12,28 +15,12 @@ pub struct Differing {
     pub number: u32,
 }
 
-// The early and the late row of each router for the routes of these columns, and the routers that differ. There is one router for
-// each entry of `early`.
-pub fn decided(
-    router: &[u32],
-    asn: &[u32],
-    preference: &[u32],
-    path: &[u32],
-    origin: &[u32],
-    med: &[u32],
-    nid: &[u32],
-    peer: &[u32],
-    ids: &[u32],
-    distances: &[u32],
-    early: &mut [u16],
-    late: &mut [u16],
-) -> Differing
-    requires { Placed (length early.old) ids.now distances.now (columns router.now asn.now preference.now path.now origin.now med.now nid.now peer.now) × (length late.old ≡ length early.old) }
-    ensures { Decided (lent_mesh (length early.old) ids.now distances.now (columns router.now asn.now preference.now path.now origin.now med.now nid.now peer.now)) result early.new late.new }
+// The early and the late row of each router for a mesh, and the routers that differ. There is one router for each entry of `early`.
+pub fn decided(mesh: &Mesh<'_>, early: &mut [u16], late: &mut [u16]) -> Differing
+    requires { Placed (length early.old) mesh.now.ids.now mesh.now.distances.now (columns_in mesh.now.routes) × (length late.old ≡ length early.old) }
+    ensures { Decided (mesh_in (length early.old) mesh.now) result early.new late.new }
 {
-    hold::forecast_rows(
-        router, asn, preference, path, origin, med, nid, peer, ids, distances, early, late,
-    );
+    hold::forecast_rows(mesh, early, late);
     let bits = word::differing(early, late);
     Differing {
         word: bits,

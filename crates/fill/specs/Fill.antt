@@ -1,5 +1,5 @@
 -- What the second pass takes from a judged input: each entry stands at a known place, and the prefixes one after another.
-use Rattle.std.specs.Prelude.{ℕ, zero, suc, ◌+◌, ◌-◌, ◌*◌, ◌/◌, ◌%◌, ◌≤◌, Bool, cond, ◌&&◌, List, [], ◌∷◌, map, length, get_or, leb, eqb}
+use Rattle.std.specs.Prelude.{ℕ, zero, suc, ◌+◌, ◌-◌, ◌*◌, ◌/◌, ◌%◌, ◌≤◌, Bool, cond, ◌&&◌, List, [], ◌∷◌, map, length, get_or, set, leb, eqb}
 use Rattle.std.proofs.lemmas.List.Edits.{sets}
 use Rattle.wire.specs.Numbers.{number_at}
 use Rattle.model.specs.Rows.{table}
@@ -61,6 +61,10 @@ prefixes_from (suc left) bs at row =
     let rs = routes_from (most_routes - row) bs first in
     cond (leb first (length bs)) (prefix_with bs at rs ∷ prefixes_from left bs (behind_routes (most_routes - row) bs first) (row + length rs)) []
 
+-- these tables with a prefix and its number of routes in a row
+abbrev pub with_prefix : Tables → ℕ → ℕ → ℕ → ℕ → Tables
+with_prefix t p address bits inside = record t { address = set t.address p address; bits = set t.bits p bits; routes = set t.routes p inside }
+
 -- the columns of prefixes and routes
 pub record Lists : Type 0 where
   pub address : List ℕ
@@ -71,6 +75,10 @@ pub record Lists : Type 0 where
 -- the columns of these lists
 abbrev pub lists : List ℕ → List ℕ → List ℕ → Columns → Lists
 lists address bits routes rows = record { address = address; bits = bits; routes = routes; rows = rows }
+
+-- those of tables
+abbrev pub lists_in : Tables → Lists
+lists_in t = lists t.address t.bits t.routes t.rows
 
 -- these columns with prefixes and their routes from the front on
 abbrev pub put_prefixes : Lists → List Prefix → Lists
@@ -91,7 +99,7 @@ pub record WideLists (n : ℕ) (t : Lists) : Type 0 where
 -- the tables with what an input of n routers and m prefixes says
 abbrev pub filled_from : List ℕ → ℕ → ℕ → Tables → Tables
 filled_from bs n m t =
-    let ps = put_prefixes (lists t.address t.bits t.routes t.rows) (prefixes_from m bs (behind_distances n) 0) in
+    let ps = put_prefixes (lists_in t) (prefixes_from m bs (behind_distances n) 0) in
     record {
       ids = sets t.ids 0 (ids_in bs n);
       distances = table (length t.distances) (entry_in bs n t.distances);

@@ -1,6 +1,6 @@
 -- The second pass takes from the bytes of a valid snapshot that snapshot.
 use Rattle.std.specs.Prelude.{ℕ, zero, suc, ◌+◌, ◌-◌, ◌*◌, ◌/◌, ◌%◌, ◌^◌, ◌≤◌, ◌<◌, ◌≡◌, refl, Bool, true, false, cond, ◌&&◌, List, [], ◌∷◌, ◌++◌, length, get_or, drop, leb, ltb, eqb}
-use Rattle.std.proofs.Common.{not-suc-le-zero, mul-le-mul, arith, sym, ap, ap₂, ◌∙◌, append_assoc, length-append, length-drop, drop_at, drop-drop, drop-cons, ext_get_or, le-leb, eq-eqb, ltb-true, ltb-false}
+use Rattle.std.proofs.Common.{not-suc-le-zero, arith, sym, ap, ap₂, ◌∙◌, append_assoc, length-append, length-drop, drop_at, drop-drop, drop-cons, ext_get_or, le-leb, eq-eqb, ltb-true, ltb-false}
 use Rattle.std.proofs.Math.Decide.{ℕ_discrete}
 use Rattle.wire.specs.Numbers.{number_at}
 use Rattle.wire.specs.NumbersLaws.{number_drop}
@@ -271,18 +271,3 @@ module _ (s : Snapshot) (v : Valid s) where
   fills t =
       let routes : routes_in s.prefixes ≤ most_routes = v.few_routes in
       rw (ids_are s v, entries_are s v t.distances, prefixes_from_lem (length s.ids) (records s) (encode s) [] s.prefixes (behind_distances (length s.ids)) 0 (behind_distances_lem s v) v.prefixes (omega arith))
-
--- ---- the place of a distance
-
--- so many pairs at most
-pub square_small : {n : ℕ} → n ≤ most_routers → n * (n - 1) ≤ most_routers * (most_routers - 1)
-square_small {n} few = mul-le-mul few (let l : n - 1 ≤ most_routers - 1 = omega arith in l)
-
-module _ {bs : List ℕ} {n : ℕ} (s : Spans bs n) where
-  -- it lies within the input, and no number on the way to it is large
-  pub place_inside : (from to : ℕ) → from < n → to < n → (from ≡ to → ⊥) → (7 * pairs_before n from to + (6 * n + 5) + 4 ≤ length bs) × (pairs_before n from to < most_routers * most_routers)
-  place_inside from to hf ht e =
-      let below : pairs_before n from to < n * (n - 1) = (pair_of n from to (record { from = 0; to = 0 }) hf ht e).0 in
-      let small : n * (n - 1) ≤ 4032 = square_small s.few in
-      let long : behind_distances n ≤ length bs = s.long in
-      (omega arith, omega arith)

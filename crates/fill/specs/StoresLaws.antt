@@ -1,116 +1,127 @@
 -- How the loops of the second pass go on: one law for each turn and each way out.
 use Prim.Native.Nat.{ℕ, zero, suc, ◌+◌, ◌-◌, ◌*◌, ◌/◌, ◌%◌, ◌≤◌, ◌<◌, zero-le}
-use Rattle.std.proofs.Common.{add-one, div-lt_iff_lt-mul, ◌∙◌, length-append, ext_get_or, lit≤, lt-ltb, le-ltb, le-leb, leb-true}
+use Rattle.std.proofs.Common.{rules, inl, inr, ◌∙◌, length-append, length-take, length-drop, ext_get_or, lt-ltb, le-ltb, le-leb, leb-true}
 use Rattle.std.proofs.Math.Decide.{dec_le}
 use native.Mathlib.Omega.{arith}
-use Rattle.std.specs.Prelude.{◌≡◌, refl, Bool, true, false, ◌&&◌, get_or, set, leb, ltb}
+use Rattle.std.specs.Prelude.{◌≡◌, refl, Bool, true, false, get_or, set, take, drop, leb, ltb, ◌⊎◌}
 use Rattle.std.proofs.Math.Path.{sym, ap, ap₂, subst}
 use Rattle.std.proofs.Math.Bool.{cond, and-false}
 use mathlib.Core.List.{List, [], ◌∷◌, ◌++◌, map, append_assoc, append-nil}
 use Rattle.std.proofs.Math.ListN.{length}
-use Rattle.std.proofs.lemmas.List.{length-map}
+use Rattle.std.proofs.lemmas.List.{length-map, map-append, places}
 use Rattle.std.proofs.lemmas.List.Edits.{sets}
 use Rattle.std.proofs.Math.Seq.{length-sets}
 use Rattle.std.proofs.lemmas.Bool.{lt-leb}
 use Rattle.model.specs.Rows.{table}
-use Rattle.model.proofs.RowLaws.{both, table_length, table_at, table_snoc}
-use Rattle.model.proofs.LoopLaws.{Stored, stored, stored_next, stored_skip}
+use Rattle.model.proofs.RowLaws.{both, table_length, table_at}
+use Rattle.model.proofs.LoopLaws.{Stored, stored_end}
 use Rattle.model.specs.Decision.{Route}
-use Rattle.snapshot.specs.Limits.{stride, most_routes}
-use Rattle.snapshot.specs.Records.{Form, count_form, prefix_form, four_byte_route_form, route_form_by, route_forms, stands, size, form_at, values_at}
-use Rattle.snapshot.proofs.RecordsLaws.{of_routes}
+use Rattle.snapshot.specs.Limits.{most_routers, stride, room_distances, most_routes}
+use Rattle.snapshot.specs.Records.{Form, count_form, prefix_form, route_forms, stands, size, form_at, values_at}
 use Rattle.snapshot.specs.Format.{Prefix, routes_in}
 use Rattle.snapshot.proofs.ChecksLaws.{length_snoc, routes_in_append}
 use Rattle.snapshot.specs.Reading.{route_of}
-use Rattle.snapshot.specs.Tables.{Columns, Tables, tables, used, put_routes, all_routes, Wide}
+use Rattle.snapshot.specs.Tables.{Columns, put_routes, all_routes, Wide}
 use Rattle.cursor.specs.Steps.{id_at, router_place}
-use Rattle.fill.specs.Fill.{ids_in, distance_in, entry_in, behind_distances, filled_from, is_route, routes_from, behind_routes, prefix_with, prefixes_from, Lists, lists, put_prefixes, WideLists}
-use Rattle.model.proofs.ColumnLaws.{sets_append}
+use Rattle.fill.specs.Fill.{ids_in, distance_in, entry_in, is_route, routes_from, behind_routes, prefix_with, prefixes_from, Lists, lists, put_prefixes, WideLists}
+use Rattle.model.proofs.ColumnLaws.{sets_append, sets_front}
+use borrow.Rule.Slice.PartMut.{put_mid}
 use Rattle.snapshot.proofs.TablesLaws.{length_all, all_append}
-
--- ---- lists that are stored from a place on
-
-map_append : {A B : Type 0} (f : A → B) (xs ys : List A) → map f (xs ++ ys) ≡ map f xs ++ map f ys
-map_append f [] ys = refl
-map_append f (x ∷ xs) ys = ap (λ l. f x ∷ l) (map_append f xs ys)
 
 -- ---- ids
 
-pub record Ids (bs : List ℕ) (n : ℕ) (ids₀ : List ℕ) (i : ℕ) (ids : List ℕ) : Type 0 where
-  pub within : i ≤ n
-  pub put : ids ≡ sets ids₀ 0 (ids_in bs i)
-
-module _ {bs : List ℕ} {n : ℕ} {ids₀ : List ℕ} where
-  pub ids_start : Ids bs n ids₀ 0 ids₀
-  ids_start = record { within = zero-le; put = refl }
-
-  module _ {i : ℕ} {ids : List ℕ} (s : Ids bs n ids₀ i ids) where
-    pub ids_long : length ids ≡ length ids₀
-    ids_long = ap length s.put ∙ length-sets ids₀ 0 (ids_in bs i)
-
-    pub ids_next : {v : ℕ} → i < n → v ≡ id_at bs (router_place (size count_form) i) → Ids bs n ids₀ (i + 1) (set ids i v)
-    ids_next {v} l e =
-        let f : ℕ → ℕ = λ i. id_at bs (router_place (size count_form) i) in
-        let long : i ≡ 0 + length (ids_in bs i) = (let z : i ≡ 0 + i = omega arith in z) ∙ ap (λ (k : ℕ). 0 + k) (sym (table_length i f)) in
-        record {
-          within = omega arith;
-          put = ap₂ (λ (l : List ℕ) (k : ℕ). set l k v) s.put long ∙ sets_append ids₀ 0 (ids_in bs i) (v ∷ [])
-              ∙ ap (λ (x : ℕ). sets ids₀ 0 (ids_in bs i ++ (x ∷ []))) e ∙ ap (sets ids₀ 0) (sym (table_snoc f i) ∙ ap (ids_in bs) (sym (add-one i)));
-        }
-
-    pub ids_end : n ≤ i → ids ≡ sets ids₀ 0 (ids_in bs n)
-    ids_end l = let w : i ≤ n = s.within in s.put ∙ ap (λ (k : ℕ). sets ids₀ 0 (ids_in bs k)) (let e : i ≡ n = omega arith in e)
+-- all ids are put into the front, and the others are as before
+pub ids_end : (bs ids₀ : List ℕ) {front : List ℕ} {n i : ℕ} → Stored 0 (λ i. id_at bs (router_place (size count_form) i)) n (take n ids₀) i front → n ≤ i → n ≤ length ids₀
+    → front ++ drop n ids₀ ≡ sets ids₀ 0 (ids_in bs n)
+ids_end bs ids₀ {front} {n} s l room =
+    let long : length (ids_in bs n) ≡ n = table_length n (λ i. id_at bs (router_place (size count_form) i)) in
+    ap (λ (xs : List ℕ). xs ++ drop n ids₀) (stored_end s l)
+    ∙ sym (sets_front ids₀ (ids_in bs n) (omega arith) ∙ ap (λ (k : ℕ). ids_in bs n ++ drop k ids₀) long)
 
 -- ---- distances
 
-pub record Entries (bs : List ℕ) (n : ℕ) (ds₀ : List ℕ) (k : ℕ) (ds : List ℕ) : Type 0 where
-  pub at : Stored 0 (entry_in bs n ds₀) (length ds₀) ds₀ k ds
+-- the rows before `from` are put, and the others are as before
+pub record Entries (bs : List ℕ) (n : ℕ) (ds₀ : List ℕ) (from : ℕ) (ds : List ℕ) : Type 0 where
+  pub at : Stored 0 (entry_in bs n ds₀) (length ds₀) ds₀ (from * stride) ds
 
-unused : (bs : List ℕ) (n : ℕ) (ds₀ : List ℕ) (k : ℕ) → used n k ≡ false → entry_in bs n ds₀ k ≡ get_or ds₀ k 0
-unused bs n ds₀ k e = ap (λ (b : Bool). cond b (distance_in bs n (k / stride) (k % stride)) (get_or ds₀ k 0)) e
+-- an entry is used, or as before
+entry_used : (bs : List ℕ) (n : ℕ) (ds₀ : List ℕ) (k : ℕ) {from to : ℕ} → k / stride ≡ from → k % stride ≡ to → from < n → to < n → entry_in bs n ds₀ k ≡ distance_in bs n from to
+entry_used bs n ds₀ k {from} {to} e f h i = rw (e, f, lt-ltb from n h, lt-ltb to n i)
 
-module _ {bs : List ℕ} {n : ℕ} {ds₀ : List ℕ} where
-  pub entries_start : Entries bs n ds₀ 0 ds₀
-  entries_start = record { at = stored refl }
+entry_unused : (bs : List ℕ) (n : ℕ) (ds₀ : List ℕ) (k : ℕ) → (n ≤ k / stride) ⊎ (n ≤ k % stride) → entry_in bs n ds₀ k ≡ get_or ds₀ k 0
+entry_unused bs n ds₀ k (inl h) = rw (le-ltb (k / stride) n h)
+entry_unused bs n ds₀ k (inr h) = rw (le-ltb (k % stride) n h, and-false (ltb (k / stride) n))
 
-  module _ {k : ℕ} {ds : List ℕ} (s : Entries bs n ds₀ k ds) where
-    pub entries_long : length ds ≡ length ds₀
-    entries_long = s.at.long
+-- what stands in a list of which a part was put anew: in that part, and outside
+part_in : (a k : ℕ) (xs ys : List ℕ) (j : ℕ) → length ys ≡ k → a + k ≤ length xs → a ≤ j → j < a + k → get_or (put_mid a k xs ys) j 0 ≡ get_or ys (j - a) 0
+part_in a k xs ys j long fits above below = search (rules, places)
 
-    pub entries_skip : k < length ds₀ → n ≤ k % stride → Entries bs n ds₀ (k + 1) ds
-    entries_skip l h = record {
-      at = stored_skip s.at l
-          (sym (unused bs n ds₀ k (ap (λ (b : Bool). ltb (k / stride) n && b) (le-ltb (k % stride) n h) ∙ and-false (ltb (k / stride) n))));
-    }
+part_before : (a k : ℕ) (xs ys : List ℕ) (j : ℕ) → a ≤ length xs → j < a → get_or (put_mid a k xs ys) j 0 ≡ get_or xs j 0
+part_before a k xs ys j fits below = search (rules, places)
 
-    pub entries_next : {v : ℕ} → k < length ds₀ → k < n * stride → k % stride < n → v ≡ distance_in bs n (k / stride) (k % stride) → Entries bs n ds₀ (k + 1) (set ds k v)
-    entries_next l m h e = record {
-      at = stored_next s.at l
-          (e ∙ sym (ap₂ (λ (a b : Bool). cond (a && b) (distance_in bs n (k / stride) (k % stride)) (get_or ds₀ k 0))
-          (lt-ltb (k / stride) n ((div-lt_iff_lt-mul {k = stride} (omega arith)).1 m)) (lt-ltb (k % stride) n h)));
-    }
+part_behind : (a k : ℕ) (xs ys : List ℕ) (j : ℕ) → length ys ≡ k → a + k ≤ length xs → a + k ≤ j → get_or (put_mid a k xs ys) j 0 ≡ get_or xs j 0
+part_behind a k xs ys j long fits above = search (rules, places)
 
-    pub entries_end : n * stride ≤ k → ds ≡ table (length ds₀) (entry_in bs n ds₀)
-    entries_end m =
-        let l = table_length (length ds₀) (entry_in bs n ds₀) in
-        let long = s.at.long in
-        ext_get_or 0 ds (table (length ds₀) (entry_in bs n ds₀)) (long ∙ sym l)
-        (λ j h. each j (omega arith) ∙ sym (table_at (entry_in bs n ds₀) 0 (length ds₀) j (omega arith)))
-      where
-        each : (j : ℕ) → j < length ds₀ → get_or ds j 0 ≡ entry_in bs n ds₀ j
-        each j h = go (dec_le (suc j) k)
-          where
-            go : Dec (j < k) → get_or ds j 0 ≡ entry_in bs n ds₀ j
-            go (yes b) = s.at.done j b
-            go (no b) =
-                let far : n ≤ j / stride = omega arith in
-                s.at.ahead j (omega arith) ∙ sym (unused bs n ds₀ j (ap (λ (b : Bool). b && ltb (j % stride) n) (le-ltb (j / stride) n far)))
+module _ {bs : List ℕ} {n : ℕ} {ds₀ : List ℕ} {from : ℕ} {ds : List ℕ} (s : Entries bs n ds₀ from ds) where
+  pub entries_next : {row : List ℕ} {m : ℕ} → from < n → n ≤ most_routers → room_distances ≤ length ds₀ → m ≡ n → row ≡ table m (distance_in bs m from)
+      → Entries bs n ds₀ (from + 1) (put_mid (from * stride) (from * stride + n - from * stride) ds row)
+  entries_next {row} {m} l few room e is =
+      record {
+        at = record {
+          within = omega arith;
+          long = omega (arith, wide, old, fits, length-append {A = ℕ}, length-take {A = ℕ}, length-drop {A = ℕ});
+          done = λ j h. go j h (dec_le (suc j) a) (dec_le (a + k) j);
+          ahead = λ j h. part_behind a k ds row j wide fits (omega arith) ∙ s.at.ahead j (omega arith);
+        };
+      }
+    where
+      a : ℕ
+      a = from * stride
+
+      k : ℕ
+      k = a + n - a
+
+      old : length ds ≡ length ds₀
+      old = s.at.long
+
+      fits : a + k ≤ length ds
+      fits = omega (arith, old)
+
+      wide : length row ≡ k
+      wide = ap length is ∙ table_length m (distance_in bs m from) ∙ (let z : m ≡ k = omega arith in z)
+
+      put : (j : ℕ) → a ≤ j → j < a + k → get_or row (j - a) 0 ≡ entry_in bs n ds₀ j
+      put j above below =
+          let inside : j - a < m = omega arith in
+          ap (λ (xs : List ℕ). get_or xs (j - a) 0) is ∙ table_at (distance_in bs m from) 0 m (j - a) inside ∙ ap (λ (m : ℕ). distance_in bs m from (j - a)) e
+          ∙ sym (entry_used bs n ds₀ j (let z : j / stride ≡ from = omega arith in z) (let z : j % stride ≡ j - a = omega arith in z) l (omega arith))
+
+      go : (j : ℕ) → j < (from + 1) * stride → Dec (j < a) → Dec (a + k ≤ j) → get_or (put_mid a k ds row) j 0 ≡ entry_in bs n ds₀ j
+      go j h (yes b) c = part_before a k ds row j (omega arith) b ∙ s.at.done j b
+      go j h (no b) (yes c) =
+          part_behind a k ds row j wide fits c ∙ s.at.ahead j (omega arith)
+          ∙ sym (entry_unused bs n ds₀ j (inr (let z : n ≤ j % stride = omega arith in z)))
+      go j h (no b) (no c) = part_in a k ds row j wide fits (omega arith) (omega arith) ∙ put j (omega arith) (omega arith)
+
+  pub entries_end : n ≤ from → ds ≡ table (length ds₀) (entry_in bs n ds₀)
+  entries_end l =
+      let e = table_length (length ds₀) (entry_in bs n ds₀) in
+      let long = s.at.long in
+      ext_get_or 0 ds (table (length ds₀) (entry_in bs n ds₀)) (long ∙ sym e)
+      (λ j h. each j (omega arith) ∙ sym (table_at (entry_in bs n ds₀) 0 (length ds₀) j (omega arith)))
+    where
+      each : (j : ℕ) → j < length ds₀ → get_or ds j 0 ≡ entry_in bs n ds₀ j
+      each j h = go (dec_le (suc j) (from * stride))
+        where
+          go : Dec (j < from * stride) → get_or ds j 0 ≡ entry_in bs n ds₀ j
+          go (yes b) = s.at.done j b
+          go (no b) = s.at.ahead j (omega arith) ∙ sym (entry_unused bs n ds₀ j (inl (let far : n ≤ j / stride = omega arith in far)))
 
 -- ---- routes
 
 column_append : {A : Type 0} (f : A → ℕ) (l : List ℕ) (i : ℕ) (xs ys : List A) → sets (sets l i (map f xs)) (i + length xs) (map f ys) ≡ sets l i (map f (xs ++ ys))
 column_append f l i xs ys =
-    ap (λ (k : ℕ). sets (sets l i (map f xs)) (i + k) (map f ys)) (sym (length-map xs f)) ∙ sets_append l i (map f xs) (map f ys) ∙ ap (sets l i) (sym (map_append f xs ys))
+    ap (λ (k : ℕ). sets (sets l i (map f xs)) (i + k) (map f ys)) (sym (length-map xs f)) ∙ sets_append l i (map f xs) (map f ys) ∙ ap (sets l i) (sym (map-append f xs ys))
 
 pub put_append : (c : Columns) (i : ℕ) (xs ys : List Route) → put_routes (put_routes c i xs) (i + length xs) ys ≡ put_routes c i (xs ++ ys)
 put_append c i xs ys =
@@ -154,10 +165,7 @@ alike_put c i rs = record {
 pub wide_alike : {n : ℕ} {c d : Columns} → Wide n c → Alike d c → Wide n d
 wide_alike w a = omega arith
 
--- a route record has at most so many bytes
-pub route_most : (four : Bool) → size (route_form_by four) ≤ size four_byte_route_form
-route_most = of_routes (λ f. size f ≤ size four_byte_route_form) (lit≤ tt) (lit≤ tt)
-
+-- a route stands whole
 pub route_whole : (bs : List ℕ) (at : ℕ) → is_route bs at ≡ true → at + size (form_at route_forms bs at) ≤ length bs
 route_whole bs at e = leb-true _ _ (both (stands route_forms (get_or bs at 0)) (leb (at + size (form_at route_forms bs at)) (length bs)) e).1
 
@@ -204,23 +212,27 @@ module _ {bs : List ℕ} {room at₀ row₀ : ℕ} {c₀ : Columns} where
     taken_alike = subst (λ (d : Columns). Alike d c₀) (sym s.put) (alike_put c₀ row₀ s.so)
 
     -- all is taken: the row and the place behind the routes, and their columns
-    abbrev All : Type 0
-    All =
-        (row ≡ row₀ + length (routes_from (room - row₀) bs at₀)) × (at ≡ behind_routes (room - row₀) bs at₀)
+    abbrev All : ℕ → Type 0
+    All end =
+        (end ≡ row₀ + length (routes_from (room - row₀) bs at₀)) × (at ≡ behind_routes (room - row₀) bs at₀)
         × (c ≡ put_routes c₀ row₀ (routes_from (room - row₀) bs at₀))
 
-    none_left : routes_from (room - row) bs at ≡ [] → behind_routes (room - row) bs at ≡ at → All
+    none_left : routes_from (room - row) bs at ≡ [] → behind_routes (room - row) bs at ≡ at → All row
     none_left e place =
         let is : routes_from (room - row₀) bs at₀ ≡ s.so = s.left ∙ ap (λ (l : List Route). s.so ++ l) e ∙ append-nil s.so in
         (s.rows ∙ ap (λ (l : List Route). row₀ + length l) (sym is), sym (s.same ∙ place), s.put ∙ ap (put_routes c₀ row₀) (sym is))
 
-    pub taken_stop : row < room → is_route bs at ≡ false → All
+    pub taken_stop : row < room → is_route bs at ≡ false → All row
     taken_stop l e =
         let more : room - row ≡ suc (room - suc row) = omega arith in
         none_left (routes_turn bs at e more) (behind_turn bs at e more)
 
-    pub taken_end : room ≤ row → All
-    taken_end l = let none : room - row ≡ 0 = omega arith in none_left (routes_none bs at none) (behind_none bs at none)
+    pub taken_end : room ≤ row → All room
+    taken_end l =
+        let none : room - row ≡ 0 = omega arith in
+        let within : row ≤ room = s.within in
+        let end : row ≡ room = omega arith in
+        subst All end (none_left (routes_none bs at none) (behind_none bs at none))
 
     pub taken_next : {d : Columns} {r : Route} {next : ℕ} → row < room → is_route bs at ≡ true → r ≡ route_of (values_at (form_at route_forms bs at) bs at)
         → next ≡ at + size (form_at route_forms bs at) → d ≡ put_routes c row (r ∷ []) → Taken bs room at₀ row₀ c₀ next (row + 1) d
@@ -382,14 +394,3 @@ module _ {bs : List ℕ} {m at₀ : ℕ} {t₀ : Lists} where
           inside = subst (λ (k : ℕ). k ≤ length bs) (sym place) room.0;
           few = omega (arith, room.1);
         }
-
--- ---- the whole
-
-pub tables_filled : (bs : List ℕ) (n m : ℕ) (t : Tables) {at : ℕ} {ids ds a b c : List ℕ} {rows : Columns}
-    → at ≡ behind_distances n → ids ≡ sets t.ids 0 (ids_in bs n) → ds ≡ table (length t.distances) (entry_in bs n t.distances)
-    → lists a b c rows ≡ put_prefixes (lists t.address t.bits t.routes t.rows) (prefixes_from m bs at 0)
-    → tables ids ds a b c rows ≡ filled_from bs n m t
-tables_filled bs n m t {a = a} {b = b} {c = c} {rows = rows} place e f g =
-    ap₂ (λ (x y : List ℕ). tables x y a b c rows) e f
-    ∙ ap (λ (l : Lists). tables (sets t.ids 0 (ids_in bs n)) (table (length t.distances) (entry_in bs n t.distances)) l.address l.bits l.routes l.rows)
-    (g ∙ ap (λ (k : ℕ). put_prefixes (lists t.address t.bits t.routes t.rows) (prefixes_from m bs k 0)) place)

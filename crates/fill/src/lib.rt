@@ -6,11 +6,12 @@ ghost use Rattle.std.proofs.lemmas.List.Edits.{sets};
 ghost use Rattle.model.specs.Rows.{table};
 ghost use Rattle.snapshot.specs.Limits.{most_routers, room_distances};
 ghost use Rattle.snapshot.specs.Plain.{route_is};
-ghost use Rattle.snapshot.specs.Tables.{columns, put_routes, Wide};
-ghost use Rattle.fill.specs.Fill.{ids_in, distance_in, entry_in, behind_distances, Spans, is_route};
+ghost use Rattle.snapshot.specs.Tables.{put_routes, Wide};
+ghost use Rattle.snapshot.specs.Lent.{lent_columns, lent_tables, KeepsColumns, Keeps};
+ghost use Rattle.fill.specs.Fill.{ids_in, distance_in, entry_in, behind_distances, Spans, is_route, with_prefix};
 
 use cursor::Network;
-use snapshot::Route;
+use snapshot::{LentColumns, LentTables, Route};
 
 // How far behind the routers the first distance stands: the count record, a kind byte and a pair.
 const FIRST_DISTANCE: usize = snapshot::COUNT_SIZE + 3;
@@ -20,10 +21,9 @@ pub fn fill_ids(input: &[u8], n: usize, ids: &mut [u32])
     requires { Spans input.now n × (most_routers ≤ length ids.old) }
     ensures { ids.new ≡ sets ids.old 0 (ids_in input.now n) }
 {
-    let mut i = 0;
-    while i < n {
-        ids[i] = cursor::id_at(input, snapshot::COUNT_SIZE + snapshot::ROUTER_SIZE * i);
-        i += 1;
+    let front = &mut ids[..n];
+    for (i, id) in front.iter_mut().enumerate() {
+        *id = cursor::id_at(input, snapshot::COUNT_SIZE + snapshot::ROUTER_SIZE * i);
     }
 }
 
@@ -60,55 +60,43 @@ fn distance_in(input: &[u8], n: usize, from: usize, to: usize) -> u32
     )
 }
 
+// Puts the distances from one router to each into the front of its row.
+fn fill_row(input: &[u8], from: usize, row: &mut [u32])
+    requires { Spans input.now (length row.old) × (from < length row.old) }
+    ensures { row.new ≡ table (length row.old) (distance_in input.now (length row.old) from) }
+{
+    let n = row.len();
+    for (to, distance) in row.iter_mut().enumerate() {
+        *distance = distance_in(input, n, from, to);
+    }
+}
+
 // Puts the distances of n routers into a table, from times the stride, plus to; equal pairs hold 0.
 pub fn fill_distances(input: &[u8], n: usize, distances: &mut [u32])
     requires { Spans input.now n × (room_distances ≤ length distances.old) }
     ensures { distances.new ≡ table (length distances.old) (entry_in input.now n distances.old) }
 {
-    let stride = snapshot::STRIDE;
-    let end = n * stride;
-    let mut k = 0;
-    while k < end {
-        let next = k + 1;
-        let from = k / stride;
-        let to = k % stride;
-        let unused = n <= to;
-        if unused {
-            k = next;
-            continue;
-        }
-        distances[k] = distance_in(input, n, from, to);
-        k = next;
+    for from in 0..n {
+        let first = from * snapshot::STRIDE;
+        fill_row(input, from, &mut distances[first..first + n]);
     }
 }
 
 // Puts a route into a row of the columns.
-pub fn put_route(
-    row: usize,
-    r: Route,
-    router: &mut [u32],
-    asn: &mut [u32],
-    preference: &mut [u32],
-    path: &mut [u32],
-    origin: &mut [u32],
-    mark: &mut [u32],
-    med: &mut [u32],
-    nid: &mut [u32],
-    peer: &mut [u32],
-)
-    requires { Wide (row + 1) (columns router.old asn.old preference.old path.old origin.old mark.old med.old nid.old peer.old) }
-    ensures { columns router.new asn.new preference.new path.new origin.new mark.new med.new nid.new peer.new
-        ≡ put_routes (columns router.old asn.old preference.old path.old origin.old mark.old med.old nid.old peer.old) row (route_is r ∷ []) }
+pub fn put_route(row: usize, r: Route, rows: &mut LentColumns<'_>)
+    requires { Wide (row + 1) (lent_columns rows.old) }
+    ensures put { lent_columns rows.new ≡ put_routes (lent_columns rows.old) row (route_is r ∷ []) }
+    ensures kept { KeepsColumns rows.old rows.new }
 {
-    router[row] = r.router;
-    asn[row] = r.asn;
-    preference[row] = r.preference;
-    path[row] = r.path;
-    origin[row] = r.origin;
-    mark[row] = r.mark;
-    med[row] = r.med;
-    nid[row] = r.nid;
-    peer[row] = r.peer;
+    rows.router[row] = r.router;
+    rows.asn[row] = r.asn;
+    rows.preference[row] = r.preference;
+    rows.path[row] = r.path;
+    rows.origin[row] = r.origin;
+    rows.mark[row] = r.mark;
+    rows.med[row] = r.med;
+    rows.nid[row] = r.nid;
+    rows.peer[row] = r.peer;
 }
 
 // Whether a whole route record stands at a place, given the kind byte there.
@@ -120,19 +108,13 @@ pub fn is_route(input: &[u8], at: usize, kind: u8) -> bool
     snapshot::route_stands(kind) & (at + size <= input.len())
 }
 
-// Puts a prefix and its number of routes into a row of the columns.
-pub fn put_prefix(
-    p: usize,
-    network: Network,
-    inside: u32,
-    address: &mut [u32],
-    bits: &mut [u32],
-    routes: &mut [u32],
-)
-    requires { (p < length address.old) × (p < length bits.old) × (p < length routes.old) }
-    ensures { (address.new ≡ set address.old p network.address) × (bits.new ≡ set bits.old p network.bits) × (routes.new ≡ set routes.old p inside) }
+// Puts a prefix and its number of routes into a row of the tables.
+pub fn put_prefix(p: usize, network: Network, inside: u32, tables: &mut LentTables<'_>)
+    requires { (p < length tables.old.address.now) × (p < length tables.old.bits.now) × (p < length tables.old.routes.now) }
+    ensures put { lent_tables tables.new ≡ with_prefix (lent_tables tables.old) p network.address network.bits inside }
+    ensures kept { Keeps tables.old tables.new }
 {
-    address[p] = network.address;
-    bits[p] = network.bits;
-    routes[p] = inside;
+    tables.address[p] = network.address;
+    tables.bits[p] = network.bits;
+    tables.routes[p] = inside;
 }

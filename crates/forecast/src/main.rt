@@ -1,23 +1,19 @@
 // The program: a snapshot from standard input, its printed forecast to standard output.
 #![tactic(auto)]
 
-use page::Rendered;
-
 // What is read at most: one byte more than the longest snapshot, since so many decide the answer.
 const INPUT: usize = snapshot::LONGEST + 1;
 
 // Writes the page of a snapshot's bytes, by way of a buffer in which any page fits. A write that fails is said on standard error.
 fn print(rt: &HostRuntime, input: &[u8], out: &mut [u8]) {
-    match page::render(input, out) {
-        Rendered::Text(end) => {
-            if out.len() < end {
-                return;
-            }
-            if rt.write_all(&out[..end]).is_err() {
-                let _ = rt.eprintln("forecast: the page could not be written");
-            }
-        }
-        Rendered::Refused(_, _) => {}
+    let Ok(end) = page::render(input, out) else {
+        return;
+    };
+    let Some(page) = out.get(..end) else {
+        return;
+    };
+    if rt.write_all(page).is_err() {
+        let _ = rt.eprintln("forecast: the page could not be written");
     }
 }
 

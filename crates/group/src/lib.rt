@@ -1,6 +1,6 @@
 // Rows in groups, and which rows are beaten by one pass over them: a row is out exactly when the lowest MED of its group is below its
-// own. The rounds of a contest look again and again at which rows are beaten, so they do it this way; `choice` has step 4 as document 01
-// does.
+// own. The rounds of a contest look again and again at which rows are beaten, so they do it this way; `choice` has step 4 as it is
+// stated.
 #![tactic(auto)]
 
 ghost use Rattle.std.specs.Prelude.{◌≡◌, not, ℕ, ◌≤◌, ◌<◌, length, eqb, ltb};
@@ -15,14 +15,11 @@ fn group_of(key: &[u32], rows: &[u16], k: usize) -> usize
     requires { Inside (length key.now) rows.now × (k < length rows.now) }
     ensures { result ≡ group_by (λ p. column key.now (column rows.now p)) k }
 {
-    let q = rows::at(rows, k);
-    let value = key[q];
-    for p in 0..k {
-        if rows::has_key(key, rows, p, value) {
-            return p;
-        }
-    }
-    k
+    let value = key[rows[k] as usize];
+    rows[..k]
+        .iter()
+        .position(|&q| key[q as usize] == value)
+        .unwrap_or(k)
 }
 
 // For each place of a list the group of its row: the first place whose row has the same in a column.
@@ -30,8 +27,8 @@ pub fn groups(key: &[u32], rows: &[u16], group: &mut [u32])
     requires { Inside (length key.now) rows.now × (length rows.now ≤ most_rows) × (length group.old ≡ length rows.now) }
     ensures { group.new ≡ groups_in key.now rows.now }
 {
-    for k in 0..rows.len() {
-        group[k] = group_of(key, rows, k) as u32;
+    for (k, first) in group.iter_mut().enumerate() {
+        *first = group_of(key, rows, k) as u32;
     }
 }
 
@@ -40,22 +37,10 @@ pub fn lower(bucket: &[u32], key: &[u32], low: &mut [u32])
     requires { (length key.now ≡ length bucket.now) × ((q : ℕ) → q < length bucket.now → column bucket.now q < length low.old) }
     ensures { (k : ℕ) → column low.new k ≡ least_or (column low.old k) (column key.now) (keep (λ q. eqb (column bucket.now q) k) (span 0 (length bucket.now))) }
 {
-    for q in 0..bucket.len() {
-        let k = bucket[q] as usize;
-        if key[q] < low[k] {
-            low[k] = key[q];
-            continue;
-        }
+    for (&b, &k) in bucket.iter().zip(key) {
+        let least = &mut low[b as usize];
+        *least = k.min(*least);
     }
-}
-
-// Whether the row q has a MED no higher than the lowest of its group.
-fn spared(group: &[u32], med: &[u32], low: &[u32], q: usize) -> bool
-    requires { (q < length group.now) × (length med.now ≡ length group.now) × (column group.now q < length low.now) }
-    ensures { result ≡ not (ltb (column low.now (column group.now q)) (column med.now q)) }
-{
-    let k = group[q] as usize;
-    !(low[k] < med[q])
 }
 
 // The place of the first row with a MED no higher than the lowest of its group, or the end of the rows.
@@ -63,10 +48,10 @@ pub fn first_spared(group: &[u32], med: &[u32], low: &[u32]) -> u32
     requires { (length group.now ≤ most_rows) × (length med.now ≡ length group.now) × ((q : ℕ) → q < length group.now → column group.now q < length low.now) }
     ensures { result ≡ first_place (λ q. not (ltb (column low.now (column group.now q)) (column med.now q))) (span 0 (length group.now)) }
 {
-    for q in 0..group.len() {
-        if spared(group, med, low, q) {
-            return q as u32;
-        }
-    }
-    group.len() as u32
+    let place = group
+        .iter()
+        .zip(med)
+        .position(|(&g, &m)| m <= low[g as usize])
+        .unwrap_or(group.len());
+    place as u32
 }

@@ -1,7 +1,8 @@
 -- What the host call returns and leaves in the area, for every input.
-use Rattle.std.specs.Prelude.{ℕ, ◌+◌, ◌≤◌, ◌<◌, ◌≡◌, List, ◌++◌, length, get_or}
+use Rattle.std.specs.Prelude.{ℕ, ◌+◌, ◌≤◌, ◌<◌, ◌≡◌, List, ◌++◌, length, get_or, Result, Ok, Err}
 use Rattle.std.proofs.lemmas.List.Edits.{sets}
 use Rattle.refusal.specs.declared.Refusal.{Refusal}
+use Rattle.refusal.specs.declared.Refused.{Refused}
 use Rattle.refusal.specs.declared.Refusal.TheVariants.{Room, NoPrefix}
 use Rattle.refusal.specs.Numbers.{number_of}
 use Rattle.model.specs.Rows.{span}
@@ -20,6 +21,11 @@ area_bytes = 256
 -- 100 plus the refusal number
 abbrev pub refusal_code : Refusal → ℕ
 refusal_code r = 100 + number_of r
+
+-- what is returned: how many routers differ, or what a refusal returns
+abbrev pub code : Result ℕ Refused → ℕ
+code (Ok differing) = differing
+code (Err e) = refusal_code e.refusal
 
 -- the early row of a router in two bytes, the late row in the next two, most significant byte first
 abbrev pub router_bytes : List ℕ → List ℕ → ℕ → List ℕ

@@ -1,135 +1,144 @@
-// The lines of the printed forecast, put into a lent buffer. Each call answers the place after what it put.
+// The lines of the printed forecast, put into a lent buffer.
 #![tactic(auto)]
 
-ghost use Rattle.std.specs.Prelude.{◌≡◌, ◌⊎◌, ◌++◌, ◌+◌, ◌≤◌, ◌<◌, length};
+ghost use Rattle.std.specs.Prelude.{◌≡◌, ◌⊎◌, ◌++◌, ◌+◌, ◌<◌, length};
+ghost use Rattle.refusal.specs.Numbers.{number_of};
 ghost use Rattle.model.specs.Rows.{column};
 ghost use Rattle.model.specs.Decision.{none};
-ghost use Rattle.text.specs.Text.{decimal, Puts};
+ghost use Rattle.text.specs.Text.{ascii, decimal, HasRoom, PutsAtMost};
 ghost use Rattle.lines.specs.Lines.{widest, heading_line, refusal_line, refused_line, dotted, state, prefix_line, entry, or_entry, router_line};
 
-use text::{put_decimal, put_text};
-
-// No row: what a router holds that has nothing to hold.
-const NONE: u16 = 65535;
+use refusal::Refused;
+use rows::NONE;
+use text::Sink;
 
 // Puts a word and a number.
-fn put_number(out: &mut [u8], at: usize, word: &[u8], n: u32) -> usize
-    requires { at + length word.now + 10 ≤ length out.old }
-    ensures { Puts out.old out.new at result (word.now ++ decimal n) × (result ≤ at + length word.now + 10) }
+pub fn put_number(sink: &mut Sink<'_>, word: &[u8], n: u32)
+    requires { HasRoom sink.old (length word.now + 10) }
+    ensures { PutsAtMost (length word.now + 10) sink.old sink.new (word.now ++ decimal n) }
 {
-    let next = put_text(out, at, word);
-    put_decimal(out, next, n as u64)
+    sink.put_text(word);
+    sink.put_decimal(n as u64);
 }
 
 // Puts line 1.
-pub fn put_heading(out: &mut [u8], at: usize, routers: u32, prefixes: u32) -> usize
-    requires { at + widest ≤ length out.old }
-    ensures { Puts out.old out.new at result (heading_line routers prefixes) × (result ≤ at + widest) }
+pub fn put_heading(sink: &mut Sink<'_>, routers: u32, prefixes: u32)
+    requires { HasRoom sink.old widest }
+    ensures { PutsAtMost widest sink.old sink.new (heading_line routers prefixes) }
 {
-    let first = put_number(out, at, b"forecast ", routers);
-    let second = put_number(out, first, b" ", prefixes);
-    put_text(out, second, b"\n")
+    put_number(sink, b"forecast ", routers);
+    put_number(sink, b" ", prefixes);
+    sink.put_text(b"\n");
+}
+
+// Puts the place of a refusal behind a space.
+fn put_place(sink: &mut Sink<'_>, place: usize)
+    requires { HasRoom sink.old 21 }
+    ensures { PutsAtMost 21 sink.old sink.new (ascii " " ++ decimal place) }
+{
+    sink.put_text(b" ");
+    sink.put_decimal(place as u64);
 }
 
 // Puts the line of a refusal behind a word that says so.
-pub fn put_refusal(out: &mut [u8], at: usize, word: &[u8], number: u32, place: usize) -> usize
-    requires { at + length word.now + 32 ≤ length out.old }
-    ensures { Puts out.old out.new at result (refusal_line word.now number place) × (result ≤ at + length word.now + 32) }
+pub fn put_refusal(sink: &mut Sink<'_>, word: &[u8], refused: Refused)
+    requires { HasRoom sink.old (length word.now + 32) }
+    ensures { PutsAtMost (length word.now + 32) sink.old sink.new (refusal_line word.now (number_of refused.refusal) refused.place) }
 {
-    let first = put_number(out, at, word, number);
-    let space = put_text(out, first, b" ");
-    let second = put_decimal(out, space, place as u64);
-    put_text(out, second, b"\n")
+    put_number(sink, word, refusal::number(refused.refusal));
+    put_place(sink, refused.place);
+    sink.put_text(b"\n");
 }
 
 // Puts the line of a refused snapshot.
-pub fn put_refused(out: &mut [u8], at: usize, number: u32, place: usize) -> usize
-    requires { at + widest ≤ length out.old }
-    ensures { Puts out.old out.new at result (refused_line number place) × (result ≤ at + widest) }
+pub fn put_refused(sink: &mut Sink<'_>, refused: Refused)
+    requires { HasRoom sink.old widest }
+    ensures { PutsAtMost widest sink.old sink.new (refused_line (number_of refused.refusal) refused.place) }
 {
-    put_refusal(out, at, b"refused ", number, place)
+    put_refusal(sink, b"refused ", refused);
 }
 
 // Puts an address.
-fn put_address(out: &mut [u8], at: usize, address: u32) -> usize
-    requires { at + 43 ≤ length out.old }
-    ensures { Puts out.old out.new at result (dotted address) × (result ≤ at + 43) }
+fn put_address(sink: &mut Sink<'_>, address: u32)
+    requires { HasRoom sink.old 43 }
+    ensures { PutsAtMost 43 sink.old sink.new (dotted address) }
 {
-    let first = put_number(out, at, b"", address / 16777216);
-    let second = put_number(out, first, b".", address / 65536 % 256);
-    let third = put_number(out, second, b".", address / 256 % 256);
-    put_number(out, third, b".", address % 256)
+    put_number(sink, b"", address / 16777216);
+    put_number(sink, b".", address / 65536 % 256);
+    put_number(sink, b".", address / 256 % 256);
+    put_number(sink, b".", address % 256);
 }
 
 // Puts whether a prefix is settled, or how many routers differ.
-fn put_state(out: &mut [u8], at: usize, differing: u32) -> usize
-    requires { at + 16 ≤ length out.old }
-    ensures { Puts out.old out.new at result (state differing) × (result ≤ at + 16) }
+fn put_state(sink: &mut Sink<'_>, differing: u32)
+    requires { HasRoom sink.old 16 }
+    ensures { PutsAtMost 16 sink.old sink.new (state differing) }
 {
     if differing == 0 {
-        return put_text(out, at, b" settled");
+        sink.put_text(b" settled");
+        return;
     }
-    put_number(out, at, b" open ", differing)
+    put_number(sink, b" open ", differing);
 }
 
 // Puts a prefix's line.
-pub fn put_prefix(out: &mut [u8], at: usize, address: u32, bits: u32, differing: u32) -> usize
-    requires { at + widest ≤ length out.old }
-    ensures { Puts out.old out.new at result (prefix_line address bits differing) × (result ≤ at + widest) }
+pub fn put_prefix(sink: &mut Sink<'_>, address: u32, bits: u32, differing: u32)
+    requires { HasRoom sink.old widest }
+    ensures { PutsAtMost widest sink.old sink.new (prefix_line address bits differing) }
 {
-    let word = put_text(out, at, b"prefix ");
-    let dots = put_address(out, word, address);
-    let slash = put_number(out, dots, b"/", bits);
-    let said = put_state(out, slash, differing);
-    put_text(out, said, b"\n")
+    sink.put_text(b"prefix ");
+    put_address(sink, address);
+    put_number(sink, b"/", bits);
+    put_state(sink, differing);
+    sink.put_text(b"\n");
 }
 
 // Puts an entry.
-fn put_entry(out: &mut [u8], at: usize, router: &[u32], r: u32, row: u16) -> usize
-    requires at_in_bounds { at + 26 ≤ length out.old }
+fn put_entry(sink: &mut Sink<'_>, router: &[u32], r: u32, row: u16)
+    requires has_room { HasRoom sink.old 26 }
     requires fact { (row ≡ none) ⊎ (row < length router.now) }
-    ensures { Puts out.old out.new at result (entry (column router.now) r row) × (result ≤ at + 26) }
+    ensures { PutsAtMost 26 sink.old sink.new (entry (column router.now) r row) }
 {
     if row == NONE {
-        return put_text(out, at, b" none");
+        sink.put_text(b" none");
+        return;
     }
     let owner = router[row as usize];
     if owner == r {
-        return put_number(out, at, b" own ", row as u32);
+        put_number(sink, b" own ", row as u32);
+        return;
     }
-    let next = put_number(out, at, b" via ", owner);
-    put_number(out, next, b" ", row as u32)
+    put_number(sink, b" via ", owner);
+    put_number(sink, b" ", row as u32);
 }
 
 // Puts `or` and the late entry where the prefix is open.
-fn put_or(out: &mut [u8], at: usize, unsettled: bool, router: &[u32], r: u32, late: u16) -> usize
-    requires at_in_bounds { at + 29 ≤ length out.old }
+fn put_or(sink: &mut Sink<'_>, unsettled: bool, router: &[u32], r: u32, late: u16)
+    requires has_room { HasRoom sink.old 29 }
     requires fact { (late ≡ none) ⊎ (late < length router.now) }
-    ensures { Puts out.old out.new at result (or_entry unsettled (column router.now) r late) × (result ≤ at + 29) }
+    ensures { PutsAtMost 29 sink.old sink.new (or_entry unsettled (column router.now) r late) }
 {
     if unsettled {
-        let word = put_text(out, at, b" or");
-        return put_entry(out, word, router, r, late);
+        sink.put_text(b" or");
+        put_entry(sink, router, r, late);
     }
-    at
 }
 
 // Puts a router's line.
 pub fn put_router(
-    out: &mut [u8],
-    at: usize,
+    sink: &mut Sink<'_>,
     unsettled: bool,
     router: &[u32],
     r: u32,
     early: u16,
     late: u16,
-) -> usize
-    requires widest_in_bounds { at + widest ≤ length out.old }
+)
+    requires has_room { HasRoom sink.old widest }
     requires fact { ((early ≡ none) ⊎ (early < length router.now)) × ((late ≡ none) ⊎ (late < length router.now)) }
-    ensures { Puts out.old out.new at result (router_line unsettled (column router.now) r early late) × (result ≤ at + widest) }
+    ensures { PutsAtMost widest sink.old sink.new (router_line unsettled (column router.now) r early late) }
 {
-    let index = put_number(out, at, b"router ", r);
-    let first = put_entry(out, index, router, r, early);
-    let both = put_or(out, first, unsettled, router, r, late);
-    put_text(out, both, b"\n")
+    put_number(sink, b"router ", r);
+    put_entry(sink, router, r, early);
+    put_or(sink, unsettled, router, r, late);
+    sink.put_text(b"\n");
 }

@@ -13,6 +13,7 @@ use Rattle.snapshot.specs.Tables.{Columns, columns, put_routes, mesh}
 use Rattle.fill.specs.Fill.{ids_in, entry_in, behind_distances, routes_from, behind_routes}
 use Rattle.decide.specs.declared.Differing.{Differing}
 use Rattle.decide.specs.Decide.{differing_of}
+use Rattle.load.specs.declared.LentMesh as lent
 
 -- the place of a prefix, so many behind the one at a place
 unfoldable pub place_from : ℕ → List ℕ → ℕ → ℕ
@@ -38,6 +39,23 @@ pub record Asked (bs : List ℕ) (n p : ℕ) : Type 0 where
 -- the columns that a prefix is decided on, which MED marks are not
 abbrev pub unmarked : List ℕ → List ℕ → List ℕ → List ℕ → List ℕ → List ℕ → List ℕ → List ℕ → Columns
 unmarked router asn preference path origin med nid peer = columns router asn preference path origin [] med nid peer
+
+-- what stands in the columns of a mesh that is lent to be filled
+abbrev pub lent_rows : lent.LentMesh → Columns
+lent_rows m = unmarked m.router.now m.asn.now m.preference.now m.path.now m.origin.now m.med.now m.nid.now m.peer.now
+
+-- its lists are the same as before, whatever stands in them
+pub record KeepsMesh (a b : lent.LentMesh) : Type 0 where
+  pub ids : b.ids.ghost_name ≡ a.ids.ghost_name
+  pub distances : b.distances.ghost_name ≡ a.distances.ghost_name
+  pub router : b.router.ghost_name ≡ a.router.ghost_name
+  pub asn : b.asn.ghost_name ≡ a.asn.ghost_name
+  pub preference : b.preference.ghost_name ≡ a.preference.ghost_name
+  pub path : b.path.ghost_name ≡ a.path.ghost_name
+  pub origin : b.origin.ghost_name ≡ a.origin.ghost_name
+  pub med : b.med.ghost_name ≡ a.med.ghost_name
+  pub nid : b.nid.ghost_name ≡ a.nid.ghost_name
+  pub peer : b.peer.ghost_name ≡ a.peer.ghost_name
 
 -- these columns have room for so many routes
 pub record WideRows (n : ℕ) (c : Columns) : Type 0 where

@@ -6,7 +6,7 @@ use Rattle.std.proofs.Math.ListN.{length, length-replicate}
 use Rattle.std.proofs.lemmas.List.{length-map}
 use Rattle.std.proofs.lemmas.List.Edits.{sets}
 use Rattle.model.specs.Rows.{table}
-use Rattle.model.specs.Decision.{Route}
+use Rattle.model.specs.Decision.{Mesh, Route}
 use Rattle.model.proofs.ColumnLaws.{sets_front}
 use Rattle.model.specs.Columns as decided
 use Rattle.model.specs.Columns.{lent_mesh, Placed}
@@ -201,6 +201,11 @@ loaded bs n p {first} {at} {rows} c₀ c e f i d r k =
       columns_are = ap drop_marks k ∙ put_unmarked c₀ 0 (routes_from most_in_prefix bs (at + 6)) ∙ ap (put_routes (drop_marks c₀) 0) routes;
     }
 
+-- columns that are the same are loaded
+pub loaded_as : {bs : List ℕ} {n p rows : ℕ} {ids₀ distances₀ ids distances : List ℕ} {c₀ c : Columns} (d : Columns)
+    → Loaded bs n p ids₀ distances₀ c₀ rows ids distances d → c ≡ d → Loaded bs n p ids₀ distances₀ c₀ rows ids distances c
+loaded_as {bs} {n} {p} {rows} {ids₀} {distances₀} {ids} {distances} {c₀} d l e = subst (λ (x : Columns). Loaded bs n p ids₀ distances₀ c₀ rows ids distances x) (sym e) l
+
 pub asked_again : {bs : List ℕ} {n m p : ℕ} → n ≡ m → Asked bs n p → Asked bs m p
 asked_again {bs} {p = p} e a = subst (λ (k : ℕ). Asked bs k p) e a
 
@@ -224,10 +229,13 @@ module _ {bs : List ℕ} {n p : ℕ} (asked : Asked bs n p) where
         rows_less (few asked.valid asked.below room there) room.rows
         (subst (λ (d : Columns). Alike d c₀) (sym loaded.columns_are) (alike_put c₀ 0 (asked_routes bs n p)))
 
-    pub loaded_placed : Placed n ids distances (front rows c)
-    loaded_placed = subst (λ (m : ℕ). Placed m ids distances (front rows c)) (sym asked.routers) (placed asked.valid asked.below room there)
+    -- of a mesh with what is loaded
+    module _ {mids mdistances : List ℕ} {t : decided.Columns} (ids_shown : mids ≡ ids) (distances_shown : mdistances ≡ distances) (routes_shown : t ≡ front rows c) where
+      pub loaded_placed : Placed n mids mdistances t
+      loaded_placed = rw (ids_shown, distances_shown, routes_shown) (subst (λ (m : ℕ). Placed m ids distances (front rows c)) (sym asked.routers) (placed asked.valid asked.below room there))
 
-    pub loaded_forecast : {d : Differing} {early late : List ℕ} → Decided (lent_mesh n ids distances (front rows c)) d early late → Forecast bs p d early late
-    loaded_forecast {d} {early} {late} h =
-        let (between, differs) = decides asked.valid asked.below room there (subst (λ (m : ℕ). Decided (lent_mesh m ids distances (front rows c)) d early late) asked.routers h) in
-        record { snapshot = asked.snapshot; read = asked.read; below = asked.below; between = between; differs = differs }
+      pub loaded_forecast : {d : Differing} {early late : List ℕ} → Decided (lent_mesh n mids mdistances t) d early late → Forecast bs p d early late
+      loaded_forecast {d} {early} {late} h =
+          let same : lent_mesh n mids mdistances t ≡ lent_mesh (length asked.snapshot.ids) ids distances (front rows c) = rw (ids_shown, distances_shown, routes_shown, asked.routers) in
+          let (between, differs) = decides asked.valid asked.below room there (subst (λ (m : Mesh). Decided m d early late) same h) in
+          record { snapshot = asked.snapshot; read = asked.read; below = asked.below; between = between; differs = differs }

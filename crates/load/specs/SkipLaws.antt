@@ -1,5 +1,5 @@
 -- How the loops that skip prefixes and their routes go on: one law for each turn and each way out.
-use Rattle.std.specs.Prelude.{ℕ, suc, ◌+◌, ◌-◌, ◌≤◌, ◌<◌, ◌≡◌, refl, Bool, true, false, List, length}
+use Rattle.std.specs.Prelude.{ℕ, suc, ◌+◌, ◌-◌, ◌≤◌, ◌<◌, ◌≡◌, refl, Bool, true, false, List, length, leb}
 use native.Mathlib.Omega.{arith}
 use Rattle.std.proofs.Math.Path.{sym, ap}
 use Rattle.std.proofs.Common.{◌∙◌, subst, le-leb}
@@ -13,66 +13,54 @@ use Rattle.load.specs.Load.{place_from}
 
 -- ---- routes
 
--- the place behind the routes from at₀ on is the one behind those from `at` on, at most so many
-pub record Skipped (bs : List ℕ) (at₀ left at : ℕ) : Type 0 where
-  pub few : left ≤ most_in_prefix
+-- of the routes from at₀ on so many were skipped, and the others stand from `at` on
+pub record Skipped (bs : List ℕ) (at₀ k at : ℕ) : Type 0 where
   pub inside : at ≤ length bs
-  pub same : behind_routes left bs at ≡ behind_routes most_in_prefix bs at₀
+  pub same : behind_routes (most_in_prefix - k) bs at ≡ behind_routes most_in_prefix bs at₀
 
-pub skipped : {bs : List ℕ} {at : ℕ} → at ≤ length bs → Skipped bs at most_in_prefix at
-skipped h = record { few = omega arith; inside = h; same = refl }
+pub skipped : {bs : List ℕ} {at : ℕ} → at ≤ length bs → Skipped bs at 0 at
+skipped h = record { inside = h; same = refl }
 
-module _ {bs : List ℕ} {at₀ left at : ℕ} (s : Skipped bs at₀ left at) where
-  more : 0 < left → left ≡ suc (left - 1)
-  more l = omega arith
+module _ {bs : List ℕ} {at₀ k at : ℕ} (s : Skipped bs at₀ k at) where
+  pub skipped_stop : k < most_in_prefix → is_route bs at ≡ false → at ≡ behind_routes most_in_prefix bs at₀
+  skipped_stop l e = sym (behind_turn bs at e (let z : most_in_prefix - k ≡ suc (most_in_prefix - (k + 1)) = omega arith in z)) ∙ s.same
 
-  pub skipped_stop : 0 < left → is_route bs at ≡ false → at ≡ behind_routes most_in_prefix bs at₀
-  skipped_stop l e = sym (behind_turn bs at e (more l)) ∙ s.same
+  pub skipped_end : most_in_prefix ≤ k → at ≡ behind_routes most_in_prefix bs at₀
+  skipped_end l = sym (behind_none bs at (let z : most_in_prefix - k ≡ 0 = omega arith in z)) ∙ s.same
 
-  pub skipped_end : left ≤ 0 → at ≡ behind_routes most_in_prefix bs at₀
-  skipped_end l = sym (behind_none bs at (let z : left ≡ 0 = omega arith in z)) ∙ s.same
-
-  pub skipped_next : {next : ℕ} → 0 < left → is_route bs at ≡ true → next ≡ at + size (form_at route_forms bs at) → Skipped bs at₀ (left - 1) next
-  skipped_next {next} l e place =
-      let few : left ≤ most_in_prefix = s.few in
-      record {
-        few = omega arith;
-        inside = subst (λ (k : ℕ). k ≤ length bs) (sym place) (route_whole bs at e);
-        same = ap (behind_routes (left - 1) bs) place ∙ sym (behind_turn bs at e (more l)) ∙ s.same;
-      }
+  pub skipped_next : {next : ℕ} → k < most_in_prefix → is_route bs at ≡ true → next ≡ at + size (form_at route_forms bs at) → Skipped bs at₀ (k + 1) next
+  skipped_next {next} l e place = record {
+    inside = subst (λ (i : ℕ). i ≤ length bs) (sym place) (route_whole bs at e);
+    same = ap (behind_routes (most_in_prefix - (k + 1)) bs) place ∙ sym (behind_turn bs at e (let z : most_in_prefix - k ≡ suc (most_in_prefix - (k + 1)) = omega arith in z)) ∙ s.same;
+  }
 
 -- ---- prefixes
 
--- the prefix that is sought stands so many behind the one at `at`
-pub record Sought (bs : List ℕ) (p at₀ left at : ℕ) : Type 0 where
-  pub few : left ≤ p
+-- so many prefixes were skipped, and the one that is sought stands behind `at` by the others
+pub record Sought (bs : List ℕ) (p at₀ k at : ℕ) : Type 0 where
   pub inside : at ≤ length bs
-  pub same : place_from left bs at ≡ place_from p bs at₀
+  pub same : place_from (p - k) bs at ≡ place_from p bs at₀
 
-pub sought : {bs : List ℕ} {p at : ℕ} → at ≤ length bs → Sought bs p at p at
-sought h = record { few = omega arith; inside = h; same = refl }
+pub sought : {bs : List ℕ} {p at : ℕ} → at ≤ length bs → Sought bs p at 0 at
+sought {bs} {p} {at} h = record { inside = h; same = ap (λ (i : ℕ). place_from i bs at) (let z : p - 0 ≡ p = omega arith in z) }
 
-module _ {bs : List ℕ} {p at₀ left at : ℕ} (s : Sought bs p at₀ left at) where
-  onward : 0 < left → place_from left bs at ≡ place_from (suc (left - 1)) bs at
-  onward l = ap (λ (k : ℕ). place_from k bs at) (let z : left ≡ suc (left - 1) = omega arith in z)
-
-  pub sought_stop : 0 < left → length bs < at + 6 → at ≡ place_from p bs at₀
+module _ {bs : List ℕ} {p at₀ k at : ℕ} (s : Sought bs p at₀ k at) where
+  -- where one more is to be skipped
+  onward : {b : Bool} → k < p → leb (at + 6) (length bs) ≡ b → place_from (p - k) bs at ≡ cond b (place_from (p - (k + 1)) bs (behind_routes most_in_prefix bs (at + 6))) at
   unfolding place_from
-  sought_stop l h = sym (ap (λ (b : Bool). cond b (place_from (left - 1) bs (behind_routes most_in_prefix bs (at + 6))) at) (lt-leb (at + 6) (length bs) h)) ∙ sym (onward l) ∙ s.same
+  onward l e =
+      ap (λ (i : ℕ). place_from i bs at) (let z : p - k ≡ suc (p - (k + 1)) = omega arith in z)
+      ∙ ap (λ (b : Bool). cond b (place_from (p - (k + 1)) bs (behind_routes most_in_prefix bs (at + 6))) at) e
 
-  pub sought_end : left ≤ 0 → at ≡ place_from p bs at₀
-  unfolding place_from
-  sought_end l = ap (λ (k : ℕ). place_from k bs at) (let z : 0 ≡ left = omega arith in z) ∙ s.same
+  pub sought_stop : k < p → length bs < at + 6 → at ≡ place_from p bs at₀
+  sought_stop l h = sym (onward l (lt-leb (at + 6) (length bs) h)) ∙ s.same
 
-  pub sought_next : {next : ℕ} → 0 < left → at + 6 ≤ length bs → next ≡ behind_routes most_in_prefix bs (at + 6) → Sought bs p at₀ (left - 1) next
+  pub sought_end : p ≤ k → at ≡ place_from p bs at₀
   unfolding place_from
-  sought_next {next} l h e =
-      let few : left ≤ p = s.few in
-      let within = routes_inside most_in_prefix bs (at + 6) h in
-      record {
-        few = omega arith;
-        inside = omega (arith, e, within.0);
-        same = ap (place_from (left - 1) bs) e
-            ∙ sym (ap (λ (b : Bool). cond b (place_from (left - 1) bs (behind_routes most_in_prefix bs (at + 6))) at) (le-leb (at + 6) (length bs) h))
-            ∙ sym (onward l) ∙ s.same;
-      }
+  sought_end l = ap (λ (i : ℕ). place_from i bs at) (let z : 0 ≡ p - k = omega arith in z) ∙ s.same
+
+  pub sought_next : {next : ℕ} → k < p → at + 6 ≤ length bs → next ≡ behind_routes most_in_prefix bs (at + 6) → Sought bs p at₀ (k + 1) next
+  sought_next {next} l h e = record {
+    inside = omega (arith, e, (routes_inside most_in_prefix bs (at + 6) h).0);
+    same = ap (place_from (p - (k + 1)) bs) e ∙ sym (onward l (le-leb (at + 6) (length bs) h)) ∙ s.same;
+  }

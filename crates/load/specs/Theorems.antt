@@ -1,4 +1,4 @@
--- What is proved of the promise of the C call's forecast, under the sentence of document 01 that it makes true.
+-- What is proved of the promise of the C call's forecast, under the sentence that it makes true.
 use Rattle.std.specs.Prelude.{ℕ, ◌≡◌, List}
 use Rattle.std.proofs.Common.{sym, ap₂, ◌∙◌, subst}
 use Rattle.model.specs.Stability.{Between}

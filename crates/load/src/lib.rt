@@ -4,9 +4,13 @@
 ghost use Rattle.std.specs.Prelude.{◌≡◌, ◌≤◌, length};
 ghost use Rattle.snapshot.specs.Limits.{most_in_prefix};
 ghost use Rattle.fill.specs.Fill.{behind_routes};
-ghost use Rattle.load.specs.Load.{place_from, unmarked, Asked, Lends, Loaded, Forecast};
+ghost use Rattle.rows.specs.Lent.{columns_in};
+ghost use Rattle.load.specs.Load.{place_from, front, lent_rows, WideRows, Asked, KeepsMesh, Lends, Loaded, Forecast};
 
 use decide::Differing;
+use pour::Place;
+use rows::{Mesh, Routes};
+use snapshot::LentColumns;
 
 // The place behind the routes that stand from a place on.
 fn behind_routes(input: &[u8], at: usize) -> usize
@@ -14,14 +18,12 @@ fn behind_routes(input: &[u8], at: usize) -> usize
     ensures { result ≡ behind_routes most_in_prefix input.now at }
 {
     let mut at = at;
-    let mut left = snapshot::MOST_IN_PREFIX;
-    while 0 < left {
+    for _ in 0..snapshot::MOST_IN_PREFIX {
         let kind = cursor::kind_at(input, at);
         if !fill::is_route(input, at, kind) {
             return at;
         }
         at += snapshot::route_size(kind == 7);
-        left -= 1;
     }
     at
 }
@@ -32,121 +34,81 @@ fn place_of(input: &[u8], at: usize, more: usize) -> usize
     ensures { result ≡ place_from more input.now at }
 {
     let mut at = at;
-    let mut left = more;
-    while 0 < left {
+    for _ in 0..more {
         if input.len() < at + snapshot::PREFIX_SIZE {
             return at;
         }
         at = behind_routes(input, at + snapshot::PREFIX_SIZE);
-        left -= 1;
     }
     at
 }
 
-fn no_column() -> [u32; rows::MOST_ROWS] {
-    [0u32; rows::MOST_ROWS]
+// What a prefix is decided on, lent to be filled: the routers' ids, the table of distances and a column for each field of its routes.
+// Nothing is decided on MED marks.
+#[derive(Drop)]
+struct LentMesh<'a> {
+    ids: &'a mut [u32],
+    distances: &'a mut [u32],
+    router: &'a mut [u32],
+    asn: &'a mut [u32],
+    preference: &'a mut [u32],
+    path: &'a mut [u32],
+    origin: &'a mut [u32],
+    med: &'a mut [u32],
+    nid: &'a mut [u32],
+    peer: &'a mut [u32],
 }
 
-// Puts what a prefix is decided on into the tables; returns its number of routes, which stand in the first rows. Nothing is decided on MED
-// marks: their column is gone when the decision begins.
-fn load(
-    input: &[u8],
-    n: usize,
-    prefix: usize,
-    ids: &mut [u32],
-    distances: &mut [u32],
-    router: &mut [u32],
-    asn: &mut [u32],
-    preference: &mut [u32],
-    path: &mut [u32],
-    origin: &mut [u32],
-    med: &mut [u32],
-    nid: &mut [u32],
-    peer: &mut [u32],
-) -> usize
-    requires { Asked input.now n prefix × Lends ids.old distances.old (unmarked router.old asn.old preference.old path.old origin.old med.old nid.old peer.old) }
-    ensures { Loaded input.now n prefix ids.old distances.old (unmarked router.old asn.old preference.old path.old origin.old med.old nid.old peer.old)
-        result ids.new distances.new (unmarked router.new asn.new preference.new path.new origin.new med.new nid.new peer.new) }
+impl<'a> LentMesh<'a> {
+    // The mesh with so many rows, to be read.
+    fn mesh(&self, rows: usize) -> Mesh<'_>
+        requires { WideRows rows (lent_rows self.now) }
+        ensures ids { result.ids.now ≡ self.now.ids.now }
+        ensures distances { result.distances.now ≡ self.now.distances.now }
+        ensures routes { columns_in result.routes ≡ front rows (lent_rows self.now) }
+    {
+        Mesh {
+            ids: &*self.ids,
+            distances: &*self.distances,
+            routes: Routes {
+                router: &self.router[..rows],
+                asn: &self.asn[..rows],
+                preference: &self.preference[..rows],
+                path: &self.path[..rows],
+                origin: &self.origin[..rows],
+                med: &self.med[..rows],
+                nid: &self.nid[..rows],
+                peer: &self.peer[..rows],
+            },
+        }
+    }
+}
+
+// Puts what a prefix is decided on into the tables; returns its number of routes, which stand in the first rows. The column of MED
+// marks is gone when the decision begins.
+fn load(input: &[u8], n: usize, prefix: usize, lent: &mut LentMesh<'_>) -> usize
+    requires { Asked input.now n prefix × Lends lent.old.ids.now lent.old.distances.now (lent_rows lent.old) }
+    ensures loaded { Loaded input.now n prefix lent.old.ids.now lent.old.distances.now (lent_rows lent.old)
+        result lent.new.ids.now lent.new.distances.now (lent_rows lent.new) }
+    ensures kept { KeepsMesh lent.old lent.new }
 {
     let routes = place_of(input, fill::behind_distances(n), prefix) + snapshot::PREFIX_SIZE;
-    fill::fill_ids(input, n, ids);
-    fill::fill_distances(input, n, distances);
-    let mut mark = no_column();
-    let end = pour::fill_routes(
-        input,
-        routes,
-        0,
-        rows::MOST_ROWS,
-        router,
-        asn,
-        preference,
-        path,
-        origin,
-        &mut mark,
-        med,
-        nid,
-        peer,
-    );
-    end.row
-}
-
-// The forecast of a prefix, by tables that are lent for it.
-fn forecast_in(
-    input: &[u8],
-    prefix: usize,
-    ids: &mut [u32],
-    distances: &mut [u32],
-    router: &mut [u32],
-    asn: &mut [u32],
-    preference: &mut [u32],
-    path: &mut [u32],
-    origin: &mut [u32],
-    med: &mut [u32],
-    nid: &mut [u32],
-    peer: &mut [u32],
-    early: &mut [u16],
-    late: &mut [u16],
-) -> Differing
-    requires { Asked input.now (length early.old) prefix × Lends ids.old distances.old (unmarked router.old asn.old preference.old path.old origin.old med.old nid.old peer.old) × (length late.old ≡ length early.old) }
-    ensures { Forecast input.now prefix result early.new late.new }
-{
-    let end = load(
-        input,
-        early.len(),
-        prefix,
-        ids,
-        distances,
-        router,
-        asn,
-        preference,
-        path,
-        origin,
-        med,
-        nid,
-        peer,
-    );
-    decide::decided(
-        &router[..end],
-        &asn[..end],
-        &preference[..end],
-        &path[..end],
-        &origin[..end],
-        &med[..end],
-        &nid[..end],
-        &peer[..end],
-        ids,
-        distances,
-        early,
-        late,
-    )
-}
-
-fn no_ids() -> [u32; rows::MOST_ROUTERS] {
-    [0u32; rows::MOST_ROUTERS]
-}
-
-fn no_distances() -> [u32; snapshot::ROOM_DISTANCES] {
-    [0u32; snapshot::ROOM_DISTANCES]
+    fill::fill_ids(input, n, lent.ids);
+    fill::fill_distances(input, n, lent.distances);
+    let mut mark = [0u32; rows::MOST_ROWS];
+    let mut columns = LentColumns {
+        router: lent.router,
+        asn: lent.asn,
+        preference: lent.preference,
+        path: lent.path,
+        origin: lent.origin,
+        mark: &mut mark,
+        med: lent.med,
+        nid: lent.nid,
+        peer: lent.peer,
+    };
+    let first = Place { row: 0, at: routes };
+    pour::fill_routes(input, first, rows::MOST_ROWS, &mut columns).row
 }
 
 // The early and the late row of each router for the prefix of a number, and the routers that differ. There is one router for each
@@ -155,30 +117,29 @@ pub fn forecast(input: &[u8], prefix: usize, early: &mut [u16], late: &mut [u16]
     requires { Asked input.now (length early.old) prefix × (length late.old ≡ length early.old) }
     ensures { Forecast input.now prefix result early.new late.new }
 {
-    let mut ids = no_ids();
-    let mut distances = no_distances();
-    let mut router = no_column();
-    let mut asn = no_column();
-    let mut preference = no_column();
-    let mut path = no_column();
-    let mut origin = no_column();
-    let mut med = no_column();
-    let mut nid = no_column();
-    let mut peer = no_column();
-    forecast_in(
-        input,
-        prefix,
-        &mut ids,
-        &mut distances,
-        &mut router,
-        &mut asn,
-        &mut preference,
-        &mut path,
-        &mut origin,
-        &mut med,
-        &mut nid,
-        &mut peer,
-        early,
-        late,
-    )
+    // A struct that owns these, with a method that lends them, would write each out twice more.
+    let mut ids = [0u32; rows::MOST_ROUTERS];
+    let mut distances = [0u32; snapshot::ROOM_DISTANCES];
+    let mut router = [0u32; rows::MOST_ROWS];
+    let mut asn = [0u32; rows::MOST_ROWS];
+    let mut preference = [0u32; rows::MOST_ROWS];
+    let mut path = [0u32; rows::MOST_ROWS];
+    let mut origin = [0u32; rows::MOST_ROWS];
+    let mut med = [0u32; rows::MOST_ROWS];
+    let mut nid = [0u32; rows::MOST_ROWS];
+    let mut peer = [0u32; rows::MOST_ROWS];
+    let mut lent = LentMesh {
+        ids: &mut ids,
+        distances: &mut distances,
+        router: &mut router,
+        asn: &mut asn,
+        preference: &mut preference,
+        path: &mut path,
+        origin: &mut origin,
+        med: &mut med,
+        nid: &mut nid,
+        peer: &mut peer,
+    };
+    let rows = load(input, early.len(), prefix, &mut lent);
+    decide::decided(&lent.mesh(rows), early, late)
 }

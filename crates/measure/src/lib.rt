@@ -1,27 +1,46 @@
-// The library's calls as the benchmarks make them: with numbers in place of enums, so that a C caller can take them.
+// The library's calls as the benchmarks make them: with numbers in place of answers, and with slices in place of structs of them, so that
+// a C caller can take them.
 #![tactic(auto)]
 
-ghost use Rattle.std.specs.Prelude.{◌≡◌};
+ghost use Rattle.std.specs.Prelude.{◌≡◌, []};
+ghost use Rattle.refusal.specs.Numbers.{said_by, gives};
 ghost use Rattle.snapshot.specs.Tables.{tables, columns};
-ghost use Rattle.scan.specs.Scan.{said as read_said};
 ghost use Rattle.writer.specs.Writing.{said as write_said};
 ghost use Rattle.outlook.specs.Outlook.{said as outlook_said};
-ghost use Rattle.apply.specs.Applying.{said as apply_said};
 ghost use Rattle.measure.specs.Measure.{write_number, outlook_number, Reads, Writes, Forecasts, Policies};
 
-use apply::Applied;
-use outlook::Outlook;
-use scan::Read;
-use snapshot::Counts;
-use writer::Write;
+use decide::Differing;
+use passes::RewriteTables;
+use refusal::Refused;
+use snapshot::{Columns, Counts, LentTables, Tables};
 
-// What reading answers, as a number.
-fn read_number(read: Read) -> u32
-    ensures { result ≡ (read_said read).number }
+// The number of a refusal, or 0.
+fn refusal_number<T>(answer: &Result<T, Refused>) -> u32
+    ensures { result ≡ (said_by (λ _. gives []) answer.now).number }
 {
-    match read {
-        Read::Refused(r, _) => refusal::number(r),
-        Read::Accepted(_) => 0,
+    match answer {
+        Ok(_) => 0,
+        Err(refused) => refusal::number(refused.refusal),
+    }
+}
+
+// What writing answers, as a number.
+fn write_number(written: Result<usize, Refused>) -> usize
+    ensures { result ≡ write_number (write_said written) }
+{
+    match written {
+        Ok(n) => n,
+        Err(refused) => 1000000 + refusal::number(refused.refusal) as usize,
+    }
+}
+
+// What a forecast answers, as a number.
+fn outlook_number(outlook: Result<Differing, Refused>) -> u32
+    ensures { result ≡ outlook_number (outlook_said outlook) }
+{
+    match outlook {
+        Ok(differing) => differing.number,
+        Err(refused) => 100 + refusal::number(refused.refusal),
     }
 }
 
@@ -46,21 +65,23 @@ pub extern "C" fn measure_read(
 ) -> u32
     ensures { Reads input.now (tables ids.old distances.old address.old bits.old routes.old (columns router.old asn.old preference.old path.old origin.old mark.old med.old nid.old peer.old)) (tables ids.new distances.new address.new bits.new routes.new (columns router.new asn.new preference.new path.new origin.new mark.new med.new nid.new peer.new)) result }
 {
-    let read = reader::read_snapshot(
-        input, ids, distances, address, bits, routes, router, asn, preference, path, origin, mark,
-        med, nid, peer,
-    );
-    read_number(read)
-}
-
-// What writing answers, as a number.
-fn write_number(written: Write) -> usize
-    ensures { result ≡ write_number (write_said written) }
-{
-    match written {
-        Write::Written(n) => n,
-        Write::Refused(r, _) => 1000000 + refusal::number(r) as usize,
-    }
+    let mut tables = LentTables {
+        ids,
+        distances,
+        address,
+        bits,
+        routes,
+        router,
+        asn,
+        preference,
+        path,
+        origin,
+        mark,
+        med,
+        nid,
+        peer,
+    };
+    refusal_number(&reader::read_snapshot(input, &mut tables))
 }
 
 // Writes a snapshot: how many bytes, or 1,000,000 plus the number of the refusal.
@@ -88,25 +109,30 @@ pub extern "C" fn measure_write(
     ensures { Writes routers prefixes of_routes (tables ids.now distances.now address.now bits.now routes.now (columns router.now asn.now preference.now path.now origin.now mark.now med.now nid.now peer.now)) out.old out.new result }
 {
     let counts = Counts {
-        routers: routers,
-        prefixes: prefixes,
+        routers,
+        prefixes,
         routes: of_routes,
     };
-    let written = writer::write_snapshot(
-        counts, ids, distances, address, bits, routes, router, asn, preference, path, origin, mark,
-        med, nid, peer, out,
-    );
-    write_number(written)
-}
-
-// What a forecast answers, as a number.
-fn outlook_number(outlook: Outlook) -> u32
-    ensures { result ≡ outlook_number (outlook_said outlook) }
-{
-    match outlook {
-        Outlook::Forecast(d) => d.number,
-        Outlook::Refused(r, _) => 100 + refusal::number(r),
-    }
+    let rows = Columns {
+        router,
+        asn,
+        preference,
+        path,
+        origin,
+        mark,
+        med,
+        nid,
+        peer,
+    };
+    let tables = Tables {
+        ids,
+        distances,
+        address,
+        bits,
+        routes,
+        rows,
+    };
+    write_number(writer::write_snapshot(counts, &tables, out))
 }
 
 // Forecasts a prefix: how many routers differ, or 100 plus the number of the refusal.
@@ -136,25 +162,30 @@ pub extern "C" fn measure_forecast(
     ensures { Forecasts routers prefixes of_routes (tables ids.now distances.now address.now bits.now routes.now (columns router.now asn.now preference.now path.now origin.now mark.now med.now nid.now peer.now)) prefix early.old late.old early.new late.new result }
 {
     let counts = Counts {
-        routers: routers,
-        prefixes: prefixes,
+        routers,
+        prefixes,
         routes: of_routes,
     };
-    let outlook = outlook::forecast(
-        counts, ids, distances, address, bits, routes, router, asn, preference, path, origin, mark,
-        med, nid, peer, prefix, early, late,
-    );
-    outlook_number(outlook)
-}
-
-// What a policy's call answers, as a number.
-fn applied_number(applied: Applied) -> u32
-    ensures { result ≡ (apply_said applied).number }
-{
-    match applied {
-        Applied::Rewritten => 0,
-        Applied::Refused(r, _) => refusal::number(r),
-    }
+    let rows = Columns {
+        router,
+        asn,
+        preference,
+        path,
+        origin,
+        mark,
+        med,
+        nid,
+        peer,
+    };
+    let tables = Tables {
+        ids,
+        distances,
+        address,
+        bits,
+        routes,
+        rows,
+    };
+    outlook_number(outlook::forecast(counts, &tables, prefix, early, late))
 }
 
 // Rewrites the routes in tables by a policy: 0, or the number of the refusal.
@@ -182,13 +213,25 @@ pub extern "C" fn measure_policy(
     ensures { Policies routers prefixes of_routes (tables ids.now distances.now address.now bits.now routes.now (columns router.now asn.now preference.old path.now origin.now mark.old med.old nid.now peer.now)) policy.now (tables ids.now distances.now address.now bits.now routes.now (columns router.now asn.now preference.new path.now origin.now mark.new med.new nid.now peer.now)) result }
 {
     let counts = Counts {
-        routers: routers,
-        prefixes: prefixes,
+        routers,
+        prefixes,
         routes: of_routes,
     };
-    let applied = apply::apply_policy(
-        policy, counts, ids, distances, address, bits, routes, router, asn, preference, path,
-        origin, mark, med, nid, peer,
-    );
-    applied_number(applied)
+    let mut tables = RewriteTables {
+        ids,
+        distances,
+        address,
+        bits,
+        routes,
+        router,
+        asn,
+        preference,
+        path,
+        origin,
+        mark,
+        med,
+        nid,
+        peer,
+    };
+    refusal_number(&apply::apply_policy(policy, counts, &mut tables))
 }

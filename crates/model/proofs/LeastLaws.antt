@@ -111,7 +111,8 @@ pub least_or_lower : (a past : ℕ) (key : ℕ → ℕ) (rows : List ℕ) → a 
 least_or_lower a past key [] l = omega arith
 least_or_lower a past key (q ∷ rows) l = omega (arith, least_or_lower a past key rows l)
 
-least_or_min : (a past : ℕ) (key : ℕ → ℕ) (rows : List ℕ) → min a (least_or past key rows) ≡ least_or (min a past) key rows
+-- what is below a number or the least key is below the lesser of both
+pub least_or_min : (a past : ℕ) (key : ℕ → ℕ) (rows : List ℕ) → min a (least_or past key rows) ≡ least_or (min a past) key rows
 least_or_min a past key [] = refl
 least_or_min a past key (q ∷ rows) = omega (arith, least_or_min a past key rows)
 

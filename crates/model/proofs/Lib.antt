@@ -13,6 +13,7 @@ pub mod Theorems
 pub mod LoopLaws
 pub mod ListLaws
 pub mod ColumnLaws
+pub mod PlaceLaws
 pub mod RunLaws
 pub mod ListingLaws
 pub mod RoundLaws

@@ -10,9 +10,8 @@ use Rattle.std.proofs.lemmas.Bool.{eqb-false}
 use Rattle.model.specs.Rows.{keep, some, span, greatest, keep_least, column}
 use Rattle.model.specs.Contest.{least_or}
 use Rattle.model.specs.Lent.{Inside, Front, Packed}
-use Rattle.model.specs.Listing.{first_place}
 use Rattle.model.proofs.RowLaws.{by, In, here, there, nowhere, in_cases, Agree, in_span, table_at, count_length, count_le, count_all}
-use Rattle.model.proofs.LeastLaws.{Picks, least_or_past, least_or_lower, keep_least_agree}
+use Rattle.model.proofs.LeastLaws.{Picks, least_or_past, least_or_lower, least_or_min, keep_least_agree}
 use Rattle.model.proofs.LoopLaws.{Stored, stored_end}
 use Rattle.model.proofs.ColumnLaws.{sets_append, sets_front}
 
@@ -252,42 +251,15 @@ module _ {bucket key : ℕ → ℕ} {rows low₀ : List ℕ} where
     lowers_end l k = sym (along_end (s.at k) l)
 
     module _ {q : ℕ} (l : i < length rows) (e : q ≡ column rows i) where
-      pub lowers_off : column low (bucket q) ≤ key q → Lowers bucket key rows low₀ (i + 1) low
-      lowers_off h = record {
-        long = s.long;
-        at = λ k. along_next (s.at k) l (λ rest. rw (← e) (by (eqb (bucket q) k)
-            (λ same. rw same (omega (arith, ap (column low) (eqb-true (bucket q) k same), least_or_past (column low k) key (keep (λ q. eqb (bucket q) k) rest))))
-            (λ other. rw other)));
-      }
-
-      pub lowers_on : {v : ℕ} → key q < column low (bucket q) → bucket q < length low → v ≡ key q → Lowers bucket key rows low₀ (i + 1) (set low (bucket q) v)
-      lowers_on {v} h m d = record {
-        long = length-set low (bucket q) v ∙ s.long;
-        at = λ k. along_next (s.at k) l (λ rest. rw (← e) (by (eqb (bucket q) k)
-            (λ same. let b = eqb-true (bucket q) k same in
-            let c : column (set low (bucket q) v) k ≡ key q = (rw (← b) (get_or-set_same low (bucket q) v 0 m)) ∙ d in
-            rw (same, c) (least_or_lower (key q) (column low k) key (keep (λ q. eqb (bucket q) k) rest) (omega (arith, ap (column low) b))))
-            (λ other. rw (other, get_or-set_other low (bucket q) k v 0 (λ f. eqb-false (bucket q) k other (sym f))))));
-      }
-
--- ---- a search for the place of the first row that passes: no row before place i does
-pub record Leads (test : ℕ → Bool) (rows : List ℕ) (i : ℕ) : Type 0 where
-  pub at : Along (first_place test rows) (λ rest. i + first_place test rest) rows i
-
-module _ {test : ℕ → Bool} {rows : List ℕ} where
-  pub leads : Leads test rows 0
-  leads = record { at = along (omega arith) }
-
-  module _ {i : ℕ} (s : Leads test rows i) where
-    pub leads_end : length rows ≤ i → length rows ≡ first_place test rows
-    leads_end l = omega (arith, along_end s.at l, s.at.within)
-
-    module _ {b : Bool} (l : i < length rows) (e : b ≡ test (column rows i)) where
-      pub leads_off : b ≡ false → Leads test rows (i + 1)
-      leads_off h = record { at = along_next s.at l (λ rest. rw (sym e ∙ h) (omega arith)) }
-
-      pub leads_hit : b ≡ true → i ≡ first_place test rows
-      leads_hit h = sym (along_hit s.at l (λ rest. rw (sym e ∙ h) (omega arith)))
+      pub lowers_next : {j p v : ℕ} → j ≡ i + 1 → p ≡ bucket q → p < length low → v ≡ min (key q) (column low p) → Lowers bucket key rows low₀ j (set low p v)
+      lowers_next {p} {v} j_is p_is m d = rw j_is (record {
+        long = length-set low p v ∙ s.long;
+        at = λ k. along_next (s.at k) l (λ rest. rw (← e, ← p_is) (by (eqb p k)
+            (λ same. let b = eqb-true p k same in
+            let c : column (set low p v) k ≡ min (key q) (column low k) = (rw (← b) (get_or-set_same low p v 0 m)) ∙ d ∙ ap (λ (z : ℕ). min (key q) (column low z)) b in
+            rw (same, c) (least_or_min (key q) (column low k) key (keep (λ q. eqb (bucket q) k) rest)))
+            (λ other. rw (other, get_or-set_other low p k v 0 (λ f. eqb-false p k other (sym f))))));
+      })
 
 -- ---- the greatest key
 pub record Higher (key : ℕ → ℕ) (rows : List ℕ) (i high : ℕ) : Type 0 where

@@ -1,11 +1,10 @@
--- Laws by which a loop over rows is proved. A loop goes from row 0 up, and its invariant speaks of the rows that are left,
--- `rest i n`: the rows from i up to n. So a turn takes one row off the front, as the definitions of `Rows` do.
-use Rattle.std.specs.Prelude.{ℕ, suc, ◌+◌, ◌-◌, ◌≤◌, ◌<◌, ◌≡◌, refl, Bool, true, false, not, ◌&&◌, ◌||◌, List, [], ◌∷◌, length, get_or, set, ltb}
-use Rattle.std.proofs.Common.{zero-le, not-suc-le-zero, add-one, arith, sym, ap, ap₂, ◌∙◌, subst, true≢false, length-set, get_or-set_same, get_or-set_other, ext_get_or, below_more, ltb-true, ltb-false}
-use Rattle.std.proofs.Math.Nat.{sub-zero}
+-- Laws by which a loop over numbers is proved, which goes from 0 up.
+use Rattle.std.specs.Prelude.{ℕ, suc, ◌+◌, ◌-◌, ◌≤◌, ◌<◌, ◌≡◌, refl, Bool, true, false, not, ◌&&◌, ◌||◌, List, [], ◌∷◌, length, get_or, set, eqb, ltb}
+use Rattle.std.proofs.Common.{zero-le, not-suc-le-zero, add-one, arith, sym, ap, ap₂, ◌∙◌, subst, length-set, get_or-set_same, get_or-set_other, ext_get_or, below_more, ltb-true, ltb-false, eqb-true}
+use Rattle.std.proofs.lemmas.List.{set-get_or}
 use Rattle.std.proofs.lemmas.Bool.{not-true, not-false}
-use Rattle.model.specs.Rows.{keep, some, span, table}
-use Rattle.model.proofs.RowLaws.{by, both, some_append, some_snoc, table_length, table_at, table_append, table_snoc}
+use Rattle.model.specs.Rows.{some, span, table}
+use Rattle.model.proofs.RowLaws.{by, both, or_false, some_append, some_snoc, table_length, table_at, table_append, table_snoc}
 
 -- the rows from i up to n
 abbrev pub rest : ℕ → ℕ → List ℕ
@@ -20,38 +19,6 @@ pub rest_end : (i n : ℕ) → n ≤ i → rest i n ≡ []
 rest_end i n l =
     let e : n - i ≡ 0 = omega arith in
     rw e
-
--- A loop at row i: what is asked, `goal`, is f of the rows from i up to n that pass a test.
-pub record Walk {A : Type 0} (goal : A) (f : List ℕ → A) (test : ℕ → Bool) (n i : ℕ) : Type 0 where
-  pub within : i ≤ n
-  pub left : goal ≡ f (keep test (rest i n))
-
-module _ {A : Type 0} {goal : A} {f : List ℕ → A} {test : ℕ → Bool} {n : ℕ} where
-  pub walk : goal ≡ f (keep test (span 0 n)) → Walk goal f test n 0
-  walk e = record { within = zero-le; left = rw sub-zero e }
-
-  module _ {i : ℕ} (w : Walk goal f test n i) where
-    pub walk_end : n ≤ i → goal ≡ f []
-    walk_end l = rw (rest_end i n l) at w.left
-
-    module _ {b : Bool} (l : i < n) (e : b ≡ test i) where
-      -- i does not pass
-      pub walk_off : b ≡ false → Walk goal f test n (i + 1)
-      walk_off h =
-          let off : test i ≡ false = sym e ∙ h in
-          record { within = omega arith; left = rw (rest_next i n l, off) at w.left }
-
-      -- i passes, and f of what is left with i is g of what is left
-      pub walk_on : {g : List ℕ → A} → b ≡ true → ((rows : List ℕ) → f (i ∷ rows) ≡ g rows) → Walk goal g test n (i + 1)
-      walk_on h step =
-          let on : test i ≡ true = sym e ∙ h in
-          record { within = omega arith; left = (rw (rest_next i n l, on) at w.left) ∙ step (keep test (rest (i + 1) n)) }
-
-      -- i passes, and the answer is had with no look at the others
-      pub walk_hit : b ≡ true → {a : A} → ((rows : List ℕ) → f (i ∷ rows) ≡ a) → goal ≡ a
-      walk_hit h step =
-          let on : test i ≡ true = sym e ∙ h in
-          (rw (rest_next i n l, on) at w.left) ∙ step (keep test (rest (i + 1) n))
 
 -- ---- a loop that stores f k at each k below n, and has done so below i
 pub record Stored {A : Type 0} (d : A) (f : ℕ → A) (n : ℕ) (xs₀ : List A) (i : ℕ) (xs : List A) : Type 0 where
@@ -139,11 +106,12 @@ module _ {f : ℕ → ℕ} {n : ℕ} {xs₀ : List ℕ} where
   moved e = record { at = stored e; still = λ _. refl }
 
   module _ {i : ℕ} {xs : List ℕ} {b : Bool} (s : Moved f n xs₀ i xs b) where
-    pub moved_none : {v : ℕ} → i < n → v ≡ f i → v ≡ get_or xs i 0 → Moved f n xs₀ (i + 1) xs b
-    moved_none l e g = record { at = stored_skip s.at l (sym (s.at.ahead i (omega arith)) ∙ sym g ∙ e); still = s.still }
-
-    pub moved_one : {v : ℕ} → i < n → v ≡ f i → Moved f n xs₀ (i + 1) (set xs i v) true
-    moved_one l e = record { at = stored_next s.at l e; still = λ t. absurd (true≢false t) }
+    pub moved_next : {v : ℕ} {c : Bool} → i < n → v ≡ f i → c ≡ (b || not (eqb v (get_or xs i 0))) → Moved f n xs₀ (i + 1) (set xs i v) c
+    moved_next {v} l e d = record {
+      at = stored_next s.at l e;
+      still = λ t. let h = or_false b (not (eqb v (get_or xs i 0))) (sym d ∙ t) in
+          ap (set xs i) (eqb-true v (get_or xs i 0) (not-false (eqb v (get_or xs i 0)) h.1)) ∙ set-get_or xs i 0 ∙ s.still h.0;
+    }
 
     pub moved_end : n ≤ i → (xs ≡ table n f) × (b ≡ false → xs ≡ xs₀)
     moved_end l = (stored_end s.at l, s.still)

@@ -1,7 +1,7 @@
 -- Laws of rounds: how a step is repeated until it changes nothing; and loops over routers, whose rows stand in one list, one router's
 -- after the other's.
 use Rattle.std.specs.Prelude.{ℕ, zero, suc, ◌+◌, ◌-◌, ◌≤◌, ◌<◌, min, ◌≡◌, Bool, cond, eqb, ltb, length, take, drop}
-use Rattle.std.proofs.Common.{zero-le, arith, sym, ap, ap₂, ◌∙◌, length-drop, get_or-take, get_or-drop, length-take-le}
+use Rattle.std.proofs.Common.{zero-le, arith, sym, ap, ap₂, ◌∙◌, length-drop, drop-drop, get_or-take, get_or-drop, length-take-le}
 use Rattle.std.proofs.Math.Nat.{sub-zero}
 use Rattle.std.proofs.Math.Numerals.{add-one}
 use Rattle.std.proofs.Math.Path.{refl}
@@ -64,36 +64,55 @@ module _ {n : ℕ} {ends : List ℕ} where
     pub turn_room : r < length ends → from + column ends r ≤ n
     turn_room l = omega (arith, t.here, t.whole, start_within ends r (length ends) l)
 
-    -- the slice of a list of rows that is the router's own
-    pub turn_own : (order : List ℕ) → take (from + column ends r - from) (drop from order) ≡ own_rows order ends r
-    turn_own order =
-        let e : from + column ends r - from ≡ column ends r = omega arith in
-        rw (e, t.here)
+-- the same where the rows of the routers before it are taken off the list
+pub record Left (rows ends : List ℕ) (r : ℕ) (rest : List ℕ) : Type 0 where
+  pub within : r ≤ length ends
+  pub whole : start ends (length ends) ≡ length rows
+  pub here : rest ≡ drop (start ends r) rows
+
+module _ {rows ends : List ℕ} where
+  pub left : start ends (length ends) ≡ length rows → Left rows ends 0 rows
+  left e = record { within = zero-le; whole = e; here = sym (ap (λ (n : ℕ). drop n rows) (start_first ends)) }
+
+  module _ {r : ℕ} {rest : List ℕ} (t : Left rows ends r rest) where
+    pub left_next : {others : List ℕ} → r < length ends → others ≡ drop (column ends r) rest → Left rows ends (r + 1) others
+    left_next l e = record {
+      within = omega arith;
+      whole = t.whole;
+      here = e ∙ ap (drop (column ends r)) t.here ∙ drop-drop (column ends r) (start ends r) rows ∙ ap (λ (n : ℕ). drop n rows) (sym (start_next ends r));
+    }
+
+    pub left_room : r < length ends → column ends r ≤ length rest
+    left_room l = omega (arith, t.whole, start_within ends r (length ends) l, ap length t.here, length-drop (start ends r) rows)
+
+    -- the router's own are the first that are left
+    pub left_own : take (column ends r) rest ≡ own_rows rows ends r
+    left_own = ap (take (column ends r)) t.here
 
 -- ---- a loop that packs the unbeaten rows of each router into the front of a list, and has done so for the routers before r
-pub record Packing (beat : ℕ → ℕ → Bool) (rows counts order₀ : List ℕ) (r from m : ℕ) (order : List ℕ) : Type 0 where
-  pub at : Turn (length rows) counts r from
-  pub few : m ≤ from
+pub record Packing (beat : ℕ → ℕ → Bool) (rows counts order₀ : List ℕ) (r : ℕ) (rest : List ℕ) (m : ℕ) (order : List ℕ) : Type 0 where
+  pub at : Left rows counts r rest
+  pub few : m ≤ start counts r
   pub packed : Packed m order₀ order (unbeaten_runs beat (own_rows rows counts) r)
 
 module _ {beat : ℕ → ℕ → Bool} {rows counts order₀ : List ℕ} where
-  pub packing : start counts (length counts) ≡ length rows → Packing beat rows counts order₀ 0 0 0 order₀
+  pub packing : start counts (length counts) ≡ length rows → Packing beat rows counts order₀ 0 rows 0 order₀
   unfolding unbeaten_runs
-  packing e = record { at = turn e; few = zero-le; packed = record { many = refl; room = zero-le; all = refl } }
+  packing e = record { at = left e; few = zero-le; packed = record { many = refl; room = zero-le; all = refl } }
 
-  module _ {r from m : ℕ} {order : List ℕ} (s : Packing beat rows counts order₀ r from m order) where
-    pub packing_next : {n : ℕ} {lent : List ℕ} (k : ℕ) → r < length counts
-        → Packed n (take k (drop m order)) lent (unbeaten_by beat (take (from + column counts r - from) (drop from rows)) (take (from + column counts r - from) (drop from rows)))
-        → Packing beat rows counts order₀ (r + 1) (from + column counts r) (m + n) (take m order ++ (lent ++ drop k (drop m order)))
+  module _ {r m : ℕ} {rest order : List ℕ} (s : Packing beat rows counts order₀ r rest m order) where
+    pub packing_next : {n j : ℕ} {own others lent : List ℕ} (k : ℕ) → j ≡ r + 1 → r < length counts → own ≡ take (column counts r) rest → others ≡ drop (column counts r) rest
+        → Packed n (take k (drop m order)) lent (unbeaten_by beat own own)
+        → Packing beat rows counts order₀ j others (m + n) (take m order ++ (lent ++ drop k (drop m order)))
     unfolding unbeaten_runs
-    packing_next {n} {lent} k l p =
-        let own = own_rows rows counts r in
-        let q : Packed n (take k (drop m order)) lent (unbeaten_by beat own own) = packed_is p (ap (λ (part : List ℕ). unbeaten_by beat part part) (turn_own s.at rows)) in
-        record {
-          at = turn_next s.at l;
-          few = omega (arith, s.few, q.many, keep_short (λ q. not (some (λ p. beat p q) own)) own, length-take (column counts r) (drop (start counts r) rows));
+    packing_next {n} {own} {lent} k j_is l own_is others_are p =
+        let mine = own_rows rows counts r in
+        let q : Packed n (take k (drop m order)) lent (unbeaten_by beat mine mine) = packed_is p (ap (λ (part : List ℕ). unbeaten_by beat part part) (own_is ∙ left_own s.at)) in
+        rw j_is (record {
+          at = left_next s.at l others_are;
+          few = omega (arith, s.few, q.many, start_next counts r, keep_short (λ q. not (some (λ p. beat p q) mine)) mine, length-take (column counts r) (drop (start counts r) rows));
           packed = rw add-one (packed_append k s.packed q);
-        }
+        })
 
     pub packing_end : length counts ≤ r → Packed m order₀ order (unbeaten_runs beat (own_rows rows counts) (length counts))
     packing_end l = let e : r ≡ length counts = omega (arith, s.at.within) in rw e at s.packed
@@ -112,13 +131,6 @@ slice_at from n xs i l =
     let e : from + n - from ≡ n = omega arith in
     let z : 0 + i ≡ i = omega arith in
     rw (e, z) (get_or-take n (drop from xs) i 0 l ∙ get_or-drop from xs i 0)
-
--- where every entry of a column is below a number, so is every entry of a part
-pub slice_within : (from n most : ℕ) (xs : List ℕ) → from + n ≤ length xs → ((q : ℕ) → q < length xs → column xs q < most) → (q : ℕ) → q < length (slice from n xs) → column (slice from n xs) q < most
-slice_within from n most xs l f q m =
-    let k : q < n = omega (arith, slice_long from n xs l) in
-    let z : 0 + q ≡ q = omega arith in
-    omega (arith, f (from + q) (omega arith), ap (column (slice from n xs)) z, slice_at from n xs q k)
 
 -- what is found of numbers from a on is what is found of those from b on, where keys and tests agree
 shift_least : (past : ℕ) (key key' : ℕ → ℕ) (test test' : ℕ → Bool) (a b n : ℕ) → ((i : ℕ) → i < n → key (a + i) ≡ key' (b + i)) → ((i : ℕ) → i < n → test (a + i) ≡ test' (b + i))

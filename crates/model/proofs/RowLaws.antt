@@ -1,5 +1,5 @@
 -- Laws of the lists of rows: membership, what filters keep, what agrees on the members, counts, tables, and the pointwise order of lists of numbers.
-use Rattle.std.specs.Prelude.{ℕ, zero, suc, ◌+◌, ◌≤◌, ◌<◌, ◌≡◌, refl, ◌⊎◌, Bool, true, false, cond, ◌&&◌, ◌||◌, not, List, [], ◌∷◌, ◌++◌, map, T, eqb, length, get_or}
+use Rattle.std.specs.Prelude.{ℕ, zero, suc, ◌+◌, ◌≤◌, ◌<◌, ◌≡◌, refl, ◌⊎◌, Bool, true, false, cond, ◌&&◌, ◌||◌, not, List, [], ◌∷◌, ◌++◌, map, T, eqb, length, get_or, replicate}
 use Rattle.std.proofs.Common.{zero-le, not-suc-le-zero, arith, sym, ap, ap₂, subst, ◌∙◌, inl, inr, ⊎_elim, true≢false, eqb→eq, T_not, ext_get_or, add-one, eqb-true}
 use Rattle.std.proofs.lemmas.Bool.{false≢true, eqb-false}
 use Rattle.std.proofs.Math.Dec.{eqb_refl, not_T}
@@ -341,6 +341,14 @@ table_same f g n h = go 0 n (λ k l. h k (omega arith))
     go : (from m : ℕ) → ((k : ℕ) → k < from + m → f k ≡ g k) → map f (span from m) ≡ map g (span from m)
     go from zero h = refl
     go from (suc m) h = rw (h from (omega arith), go (suc from) m (λ k l. h k (omega arith)))
+
+-- one value everywhere
+pub table_const : {A : Type 0} (n : ℕ) (v : A) → replicate n v ≡ table n (λ r. v)
+table_const n v = go 0 n
+  where
+    go : (from m : ℕ) → replicate m v ≡ map (λ r. v) (span from m)
+    go from zero = refl
+    go from (suc m) = ap (λ xs. v ∷ xs) (go (suc from) m)
 
 -- ---- the pointwise order
 

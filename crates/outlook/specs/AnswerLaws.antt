@@ -1,27 +1,24 @@
 -- What an answer in numbers tells, and that two promises of a forecast agree.
-use Rattle.std.specs.Prelude.{ℕ, ◌≡◌, refl, List, length}
+use Rattle.std.specs.Prelude.{ℕ, ◌≡◌, refl, List, length, Result}
 use Rattle.std.proofs.Common.{arith, sym, ap, ap₂, subst, ◌∙◌, true≢false}
 use Rattle.std.proofs.lemmas.List.Edits.{sets}
 use Rattle.refusal.specs.Numbers.{Said, gives}
-use Rattle.refusal.proofs.NumbersLaws.{value, same_refusal, gives_refuses}
+use Rattle.refusal.specs.declared.Refused.{Refused}
+use Rattle.refusal.proofs.NumbersLaws.{value, answer_tells}
 use Rattle.snapshot.specs.declared.Counts.{Counts}
 use Rattle.snapshot.specs.Format.{Snapshot}
 use Rattle.snapshot.specs.Tables.{Tables, mesh}
 use Rattle.tables.specs.Theorems.{held_one, sound}
 use Rattle.model.specs.Stability.{Between}
 use Rattle.model.proofs.Theorems.{pair_determined}
+use Rattle.decide.specs.declared.Differing.{Differing}
 use Rattle.decide.specs.Decide.{differing_of}
-use Rattle.outlook.specs.declared.Outlook.{Outlook}
-use Rattle.outlook.specs.declared.Outlook.TheVariants.{Forecast, Refused}
 use Rattle.outlook.specs.Outlook.{Forecasts, room, no_snapshot, no_prefix, given, values_of, said}
 use Rattle.outlook.specs.OutlookLaws.{roomy}
 
 -- numbers and values tell the answer
-pub said_tells : (a b : Outlook) → said a ≡ said b → a ≡ b
-said_tells (Forecast d) (Forecast f) e = ap (λ (s : Said). Forecast (record { word = value s 0; number = value s 1 })) e
-said_tells (Forecast d) (Refused r at) e = absurd (gives_refuses r at _ e)
-said_tells (Refused r at) (Forecast d) e = absurd (gives_refuses r at _ (sym e))
-said_tells (Refused r at) (Refused q place) e = same_refusal Refused r q at place e
+pub said_tells : (a b : Result Differing Refused) → said a ≡ said b → a ≡ b
+said_tells = answer_tells values_of (λ d f e. ap (λ (s : Said). record { word = value s 0; number = value s 1 }) e)
 
 -- the same answer and the same areas
 pub record Same {A : Type 0} (a b : A) (early early' late late' : List ℕ) : Type 0 where

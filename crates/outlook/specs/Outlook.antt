@@ -1,8 +1,9 @@
 -- What the forecast of one prefix answers, and what it leaves in the two answer areas, for every input.
-use Rattle.std.specs.Prelude.{ℕ, ◌-◌, ◌≤◌, ◌<◌, ◌≡◌, Bool, true, false, List, [], ◌∷◌, ◌++◌, ltb, length, take, drop}
+use Rattle.std.specs.Prelude.{ℕ, ◌-◌, ◌≤◌, ◌<◌, ◌≡◌, Bool, true, false, List, [], ◌∷◌, ◌++◌, ltb, length, Result}
 use Rattle.std.proofs.lemmas.List.Edits.{sets}
 use Rattle.refusal.specs.declared.Refusal.TheVariants.{Room, Table, NoPrefix}
-use Rattle.refusal.specs.Numbers.{Said, refuses, gives}
+use Rattle.refusal.specs.declared.Refused.{Refused}
+use Rattle.refusal.specs.Numbers.{Said, refuses, gives, said_by}
 use Rattle.snapshot.specs.declared.Counts.{Counts}
 use Rattle.snapshot.specs.Limits.{most_routers, most_routes}
 use Rattle.snapshot.specs.Ranges.{any_of}
@@ -12,10 +13,9 @@ use Rattle.model.specs.Contest.{early, late}
 use Rattle.model.specs.Columns.{Columns, columns, Placed}
 use Rattle.model.specs.Decision.{Mesh}
 use Rattle.model.specs.Stability.{Between}
+use Rattle.rows.specs.Lent.{cut}
 use Rattle.decide.specs.declared.Differing.{Differing}
 use Rattle.decide.specs.Decide.{differing_of}
-use Rattle.outlook.specs.declared.Outlook.{Outlook}
-use Rattle.outlook.specs.declared.Outlook.TheVariants.{Forecast, Refused}
 
 -- ROOM: which of the tables is shorter than its limit, or which answer area shorter than 64 entries
 abbrev pub short_of : Tables → List ℕ → List ℕ → List Bool
@@ -25,10 +25,9 @@ short_of t early late = short t ++ (ltb (length early) most_routers ∷ ltb (len
 abbrev pub values_of : Differing → List ℕ
 values_of d = d.word ∷ d.number ∷ []
 
--- an answer in document 01's numbers
-abbrev pub said : Outlook → Said
-said (Forecast d) = gives (values_of d)
-said (Refused r at) = refuses r at
+-- an answer in numbers
+abbrev pub said : Result Differing Refused → Said
+said = said_by (λ d. gives (values_of d))
 
 -- the answer to these counts, tables, prefix number and answer areas, and what the areas hold afterwards; checked in this order
 pub data Forecasts (counts : Counts) (t : Tables) (p : ℕ) (early late : List ℕ) : Said → List ℕ → List ℕ → Type 0 where
@@ -52,15 +51,9 @@ pub data Forecasts (counts : Counts) (t : Tables) (p : ℕ) (early late : List �
 
 -- ---- what the code knows of lent columns
 
--- so many entries of a list, from one on
-abbrev pub part : ℕ → ℕ → List ℕ → List ℕ
-part at n xs = take n (drop at xs)
-
--- so many entries of each column, from one on
-abbrev pub cut : ℕ → ℕ → Columns → Columns
-cut at n c = columns
-    (part at n c.router) (part at n c.asn) (part at n c.preference) (part at n c.path)
-    (part at n c.origin) (part at n c.med) (part at n c.nid) (part at n c.peer)
+-- the columns of tables, but for the marks
+abbrev pub whole : Tables → Columns
+whole t = columns t.rows.router t.rows.asn t.rows.preference t.rows.path t.rows.origin t.rows.med t.rows.nid t.rows.peer
 
 -- the early and the late rows of a mesh at the start of two areas, whose other entries are as before; and the routers that differ
 pub record Shown (M : Mesh) (d : Differing) (early₀ early₁ late₀ late₁ : List ℕ) : Type 0 where

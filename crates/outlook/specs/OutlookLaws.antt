@@ -1,6 +1,6 @@
 -- What the code decides on lent tables is early and late of the snapshot that they hold.
-use Rattle.std.specs.Prelude.{ℕ, ◌+◌, ◌-◌, ◌≤◌, ◌<◌, ◌≡◌, refl, Bool, true, false, ◌||◌, not, List, ◌++◌, map, length, get_or, drop, T, eqb, ltb}
-use Rattle.std.proofs.Common.{arith, sym, ap, ap₂, subst, ◌∙◌, inl, inr, true≢false, ltb-false, eqb-true, get_or-take}
+use Rattle.std.specs.Prelude.{ℕ, ◌+◌, ◌-◌, ◌≤◌, ◌<◌, ◌≡◌, refl, Bool, true, false, ◌||◌, not, List, ◌++◌, map, length, get_or, drop, T, eqb, ltb, Result, Ok, Err}
+use Rattle.std.proofs.Common.{arith, sym, ap, ap₂, subst, ◌∙◌, inl, inr, ⊎_elim, true≢false, ltb-false, eqb-true, get_or-take}
 use Rattle.std.proofs.Math.Path.{fun_ext}
 use Rattle.std.proofs.lemmas.List.{length-map}
 use Rattle.std.proofs.Math.ListN.{get_or-eq_default}
@@ -15,7 +15,11 @@ use Rattle.snapshot.proofs.TablesLaws.{has_room}
 use Rattle.snapshot.specs.Tables.{Tables, short, Room, Held, routes_of, mesh}
 use Rattle.snapshot.proofs.ChecksLaws.{routers_few}
 use Rattle.tables.specs.Theorems.{held_ids, held_distance, held_count, held_fits, held_column, routes_few, absent_zero, sound}
-use Rattle.tables.specs.Judging.{Holding}
+use Rattle.tables.specs.Judging.{Holding, Verdicts, numbered}
+use Rattle.tables.specs.Theorems as Judged
+use Rattle.refusal.specs.declared.Refusal.{Refusal}
+use Rattle.refusal.specs.declared.Refused.{Refused}
+use Rattle.refusal.specs.Numbers.{refuses}
 use Rattle.model.specs.Rows.{keep, span, table, column, start}
 use Rattle.model.specs.Decision.{Route, Mesh, metric, choice}
 use Rattle.model.specs.Stability.{Sound, Between, available}
@@ -28,8 +32,8 @@ use Rattle.model.proofs.ColumnLaws.{sets_front}
 use Rattle.model.proofs.Theorems.{forecast, pair_determined}
 use Rattle.decide.specs.declared.Differing.{Differing}
 use Rattle.decide.specs.Decide.{differing_of, Decided}
-use Rattle.outlook.specs.declared.Outlook.TheVariants.{Forecast}
-use Rattle.outlook.specs.Outlook.{Forecasts, given, said, short_of, cut, Shown, Part}
+use Rattle.rows.specs.Lent.{cut}
+use Rattle.outlook.specs.Outlook.{Forecasts, room, no_snapshot, given, said, short_of, whole, Shown, Part}
 
 -- ---- room
 
@@ -63,7 +67,7 @@ module _ (t : Tables) (early late : List ℕ) where
   area_short e = second_of (any_of (short t)) short_early short_late e
 
   -- a table is
-  pub table_short : T (any_of (short t)) → any_of (short_of t early late) ≡ true
+  table_short : T (any_of (short t)) → any_of (short_of t early late) ≡ true
   table_short h = first_of (any_of (short t)) short_early short_late h
 
   -- none is
@@ -80,6 +84,18 @@ module _ (t : Tables) (early late : List ℕ) where
     pub late_room : most_routers ≤ length late
     late_room = ltb-false _ _ (each_of (any_of (short t)) short_early short_late enough).2
 
+-- what examining refuses is refused, at place 0
+pub refused_by : (counts : Counts) (t : Tables) (p : ℕ) (early late : List ℕ) {v : Result Unit Refusal} {w : Result Unit Refused} {r : Refused}
+    → Judged.Placed v w → w ≡ Err r → (short_early t early late || short_late t early late) ≡ false → Verdicts counts t (numbered v)
+    → Forecasts counts t p early late (refuses r.refusal r.place) early late
+refused_by counts t p earlies lates placed e long judged =
+    let (q, same, at) = Judged.placed_err placed e in
+    subst (λ (r : Refused). Forecasts counts t p earlies lates (refuses r.refusal r.place) earlies lates) (sym at) (⊎_elim
+    (λ k. subst (λ (q : Refusal). Forecasts counts t p earlies lates (refuses q 0) earlies lates) (sym k.0) (room (table_short t earlies lates k.1)))
+    (λ k. subst (λ (q : Refusal). Forecasts counts t p earlies lates (refuses q 0) earlies lates) (sym k.0)
+    (no_snapshot (none_short t earlies lates long k.1) (λ snapshot valid held. k.2 (record { snapshot = snapshot; valid = valid; held = held }))))
+    (Judged.verdict_refused judged q (ap numbered same)))
+
 -- ---- the forecast of lent columns
 
 -- the columns of a prefix's routes, with MEDs as they stand
@@ -91,10 +107,6 @@ columns_of rs = columns
 -- a prefix's part of each column
 abbrev pub parts : List ℕ → ℕ → Columns → Columns
 parts routes p c = cut (start routes p) (column routes p) c
-
--- the columns of tables, but for the marks
-abbrev pub whole : Tables → Columns
-whole t = columns t.rows.router t.rows.asn t.rows.preference t.rows.path t.rows.origin t.rows.med t.rows.nid t.rows.peer
 
 module _ {counts : Counts} {t : Tables} {s : Snapshot} (enough : Room t) (valid : Valid s) (held : Held counts t s) (p : ℕ) (below : p < length s.prefixes) where
   -- what the code decides the prefix on
@@ -190,9 +202,6 @@ module _ {counts : Counts} {t : Tables} {s : Snapshot} (enough : Room t) (valid 
 -- ---- rows at the start of two areas
 
 module _ {n n' : ℕ} (e : n ≡ n') (ids distances : List ℕ) (c : Columns) where
-  pub placed_again : Placed n ids distances c → Placed n' ids distances c
-  placed_again p = subst (λ (z : ℕ). Placed z ids distances c) e p
-
   pub shown_again : {d : Differing} {rows lasts early₀ early₁ late₀ late₁ : List ℕ}
       → n ≤ length early₀ → n ≤ length late₀ → early₁ ≡ rows ++ drop n early₀ → late₁ ≡ lasts ++ drop n late₀
       → Decided (lent_mesh n' ids distances c) d rows lasts → Shown (lent_mesh n ids distances c) d early₀ early₁ late₀ late₁
@@ -214,6 +223,16 @@ module _ {n n' : ℕ} (e : n ≡ n') (ids distances : List ℕ) (c : Columns) wh
 
       front : (area x : List ℕ) → length x ≡ n → n ≤ length area → x ++ drop n area ≡ sets area 0 x
       front area x z fits = ap (λ (m : ℕ). x ++ drop m area) (sym z) ∙ sym (sets_front area x (omega arith))
+
+-- what is shown of equal ids, distances and columns
+pub shown_same : (n at many : ℕ) {ids ids' distances distances' : List ℕ} {c c' : Columns} {d : Differing} {early₀ early₁ late₀ late₁ : List ℕ}
+    → ids ≡ ids' → distances ≡ distances' → c ≡ c'
+    → Shown (lent_mesh n ids distances (cut at many c)) d early₀ early₁ late₀ late₁
+    → Shown (lent_mesh n ids' distances' (cut at many c')) d early₀ early₁ late₀ late₁
+shown_same n at many {ids} {ids'} {distances} {distances'} {c} {c'} {d} {early₀} {early₁} {late₀} {late₁} e f g h =
+    subst (λ (x : Columns). Shown (lent_mesh n ids' distances' (cut at many x)) d early₀ early₁ late₀ late₁) g
+    (subst (λ (x : List ℕ). Shown (lent_mesh n ids' x (cut at many c)) d early₀ early₁ late₀ late₁) f
+    (subst (λ (x : List ℕ). Shown (lent_mesh n x distances (cut at many c)) d early₀ early₁ late₀ late₁) e h))
 
 -- ---- the whole call
 
@@ -274,11 +293,11 @@ module _ (counts : Counts) (t : Tables) (p : ℕ) (roomy : Room t) (holding : Ho
     -- what the code shows is the forecast
     pub shown_given : (early₀ late₀ : List ℕ) → any_of (short_of t early₀ late₀) ≡ false → {d : Differing} {early₁ late₁ : List ℕ}
         → Shown (lent_mesh counts.routers t.ids t.distances (cut first (end - first) (whole t))) d early₀ early₁ late₀ late₁
-        → Forecasts counts t p early₀ late₀ (said (Forecast d)) early₁ late₁
+        → Forecasts counts t p early₀ late₀ (said (Ok d)) early₁ late₁
     shown_given early₀ late₀ enough {d} {early₁} {late₁} h =
-        subst (λ (x : Differing). Forecasts counts t p early₀ late₀ (said (Forecast x)) early₁ late₁) (sym answer)
-        (subst (λ (x : List ℕ). Forecasts counts t p early₀ late₀ (said (Forecast (differing_of (mesh s p) (early L) (late L)))) x late₁) (sym k.early_area)
-        (subst (λ (x : List ℕ). Forecasts counts t p early₀ late₀ (said (Forecast (differing_of (mesh s p) (early L) (late L)))) (sets early₀ 0 (early L)) x) (sym k.late_area)
+        subst (λ (x : Differing). Forecasts counts t p early₀ late₀ (said (Ok x)) early₁ late₁) (sym answer)
+        (subst (λ (x : List ℕ). Forecasts counts t p early₀ late₀ (said (Ok (differing_of (mesh s p) (early L) (late L)))) x late₁) (sym k.early_area)
+        (subst (λ (x : List ℕ). Forecasts counts t p early₀ late₀ (said (Ok (differing_of (mesh s p) (early L) (late L)))) (sets early₀ 0 (early L)) x) (sym k.late_area)
         (given enough s holding.valid holding.held there (early L) (late L) (lent_between roomy holding.valid holding.held p there))))
       where
         L : Mesh

@@ -1,18 +1,19 @@
 -- What is proved of the promise of a forecast, each theorem under the sentence of document 01 that it makes true.
-use Rattle.std.specs.Prelude.{ℕ, ◌<◌, ◌≡◌, ◌↔◌, List, length}
+use Rattle.std.specs.Prelude.{ℕ, ◌<◌, ◌≡◌, ◌↔◌, List, length, Result}
 use Rattle.snapshot.specs.declared.Counts.{Counts}
 use Rattle.snapshot.specs.Format.{Snapshot, Valid}
 use Rattle.snapshot.specs.Tables.{Tables, mesh}
 use Rattle.tables.specs.Theorems.{sound}
 use Rattle.model.specs.Stability.{Between, Only}
 use Rattle.model.proofs.Theorems.{settled_only}
+use Rattle.refusal.specs.declared.Refused.{Refused}
+use Rattle.decide.specs.declared.Differing.{Differing}
 use Rattle.decide.specs.Decide.{differing_of}
-use Rattle.outlook.specs.declared.Outlook.{Outlook}
 use Rattle.outlook.specs.Outlook.{Forecasts, said}
 use Rattle.outlook.specs.AnswerLaws.{Same, said_tells, same_said}
 
 -- "Each public call's promise determines its result and the later contents of everything it was lent, for all inputs and refusals"
-pub forecasts_one : {counts : Counts} {t : Tables} {p : ℕ} {early late : List ℕ} (a b : Outlook) {e l e' l' : List ℕ}
+pub forecasts_one : {counts : Counts} {t : Tables} {p : ℕ} {early late : List ℕ} (a b : Result Differing Refused) {e l e' l' : List ℕ}
     → Forecasts counts t p early late (said a) e l → Forecasts counts t p early late (said b) e' l' → Same a b e e' l l'
 forecasts_one a b f g = let same = same_said f g in record { answer = said_tells a b same.answer; earlies = same.earlies; lates = same.lates }
 

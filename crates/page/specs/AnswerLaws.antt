@@ -1,12 +1,13 @@
 -- What a page and an answer tell: the bytes tell their page, numbers and values the answer, and the word `settled` the number 0.
-use Rattle.std.specs.Prelude.{ℕ, ◌<◌, ◌≡◌, refl, Bool, true, false, cond, List, [], ◌∷◌, ◌++◌, T, eqb, length, get_or, drop}
+use Rattle.std.specs.Prelude.{ℕ, ◌<◌, ◌≡◌, refl, Bool, true, false, cond, List, [], ◌∷◌, ◌++◌, T, eqb, length, get_or, drop, Result}
 use Rattle.std.proofs.Common.{arith, sym, ap, ap₂, subst, ◌∙◌, append_assoc, eqb-true}
 use Rattle.std.proofs.Math.Pow.{are_bytes}
 use Rattle.std.proofs.lemmas.List.Edits.{sets}
 use Rattle.std.proofs.Math.Seq.{drop-append_seam}
 use Rattle.refusal.specs.declared.Refusal.{Refusal}
+use Rattle.refusal.specs.declared.Refused.{Refused}
 use Rattle.refusal.specs.Numbers.{number_of, Said, gives}
-use Rattle.refusal.proofs.NumbersLaws.{value, same_refusal, gives_refuses}
+use Rattle.refusal.proofs.NumbersLaws.{value, answer_tells}
 use Rattle.model.specs.Rows.{span}
 use Rattle.model.proofs.RowLaws.{in_span}
 use Rattle.model.specs.Stability.{Between}
@@ -20,19 +21,14 @@ use Rattle.tables.specs.Theorems.{sound}
 use Rattle.reader.specs.TakenLaws.{one_refused}
 use Rattle.text.specs.Text.{ascii, decimal}
 use Rattle.lines.specs.Lines.{heading_line, refused_line, dotted, state, prefix_line}
-use Rattle.page.specs.declared.Rendered.{Rendered}
-use Rattle.page.specs.declared.Rendered.TheVariants.{Text, Refused}
 use Rattle.page.specs.Page.{prefix_text, snapshot_text, Pages, unread, given, said, Renders, room, text}
 use Rattle.page.specs.RenderLaws.{each_same}
 
 -- ---- answers
 
 -- numbers and values tell the answer
-pub said_tells : (a b : Rendered) → said a ≡ said b → a ≡ b
-said_tells (Text n) (Text m) e = ap (λ (s : Said). Text (value s 0)) e
-said_tells (Text n) (Refused r at) e = absurd (gives_refuses r at _ e)
-said_tells (Refused r at) (Text n) e = absurd (gives_refuses r at _ (sym e))
-said_tells (Refused r at) (Refused q place) e = same_refusal Refused r q at place e
+pub said_tells : (a b : Result ℕ Refused) → said a ≡ said b → a ≡ b
+said_tells = answer_tells (λ n. n ∷ []) (λ n m e. ap (λ (s : Said). value s 0) e)
 
 -- ---- pages
 

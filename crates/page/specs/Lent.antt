@@ -1,16 +1,17 @@
 -- What the code knows of lent tables, and the text that it makes of them. It decides a prefix by rounds; that these lead to the page of
 -- Page.antt is proved in RenderLaws.antt.
-use Rattle.std.specs.Prelude.{ℕ, ◌+◌, ◌≤◌, ◌<◌, ◌≡◌, ◌⊎◌, List, ◌++◌, length, get_or, replicate}
+use Rattle.std.specs.Prelude.{ℕ, ◌+◌, ◌≤◌, ◌<◌, ◌≡◌, ◌⊎◌, List, ◌++◌, length, get_or, replicate, Result, Ok, Err}
+use Rattle.refusal.specs.declared.Refused.{Refused}
 use Rattle.refusal.specs.Numbers.{number_of}
 use Rattle.model.specs.Rows.{span, column, start}
-use Rattle.model.specs.Columns.{Columns, lent_mesh}
+use Rattle.model.specs.Columns.{lent_mesh}
 use Rattle.model.specs.Decision.{Mesh, none}
 use Rattle.model.specs.Contest.{early, late}
 use Rattle.snapshot.specs.Limits.{most_routers, most_prefixes}
+use Rattle.snapshot.specs.Tables.{Tables}
 use Rattle.snapshot.specs.declared.Counts.{Counts}
-use Rattle.scan.specs.declared.Read.{Read}
-use Rattle.scan.specs.declared.Read.TheVariants as read
-use Rattle.outlook.specs.Outlook.{cut, Part}
+use Rattle.rows.specs.Lent.{cut}
+use Rattle.outlook.specs.Outlook.{whole, Part}
 use Rattle.text.specs.Text.{each}
 use Rattle.lines.specs.Lines.{heading_line, refused_line}
 use Rattle.page.specs.Page.{mesh_text, widest_page}
@@ -24,29 +25,29 @@ abbrev pub decided_text : ℕ → ℕ → Mesh → List ℕ
 decided_text address bits M = mesh_text M address bits (early M) (late M)
 
 -- the text of a prefix of lent tables
-abbrev pub lent_text : ℕ → List ℕ → List ℕ → List ℕ → List ℕ → List ℕ → Columns → ℕ → List ℕ
-lent_text routers ids distances address bits routes c p =
-    decided_text (column address p) (column bits p) (lent_mesh routers ids distances (cut (start routes p) (column routes p) c))
+abbrev pub lent_text : ℕ → Tables → ℕ → List ℕ
+lent_text routers t p =
+    decided_text (column t.address p) (column t.bits p) (lent_mesh routers t.ids t.distances (cut (start t.routes p) (column t.routes p) (whole t)))
 
 -- an area for the rows of the most routers
 abbrev pub blank : List ℕ
 blank = replicate most_routers 0
 
 -- so many prefixes, each of which may be decided
-pub record Blocks (routers prefixes : ℕ) (ids distances address bits routes : List ℕ) (c : Columns) : Type 0 where
+pub record Blocks (routers prefixes : ℕ) (t : Tables) : Type 0 where
   pub few : prefixes ≤ most_prefixes
-  pub addresses : prefixes ≤ length address
-  pub lengths : prefixes ≤ length bits
-  pub numbers : prefixes ≤ length routes
-  pub part : (p first end : ℕ) → p < prefixes → first ≡ start routes p → end ≡ first + column routes p → Part routers first end ids distances c blank blank
+  pub addresses : prefixes ≤ length t.address
+  pub lengths : prefixes ≤ length t.bits
+  pub numbers : prefixes ≤ length t.routes
+  pub part : (p first end : ℕ) → p < prefixes → first ≡ start t.routes p → end ≡ first + column t.routes p
+      → Part routers first end t.ids t.distances (whole t) blank blank
 
 -- the page of what was read into lent tables
-abbrev pub lent_page : Read → List ℕ → List ℕ → List ℕ → List ℕ → List ℕ → Columns → List ℕ
-lent_page (read.Accepted n) ids distances address bits routes c =
-    heading_line n.routers n.prefixes ++ each (lent_text n.routers ids distances address bits routes c) (span 0 n.prefixes)
-lent_page (read.Refused r at) ids distances address bits routes c = refused_line (number_of r) at
+abbrev pub lent_page : Result Counts Refused → Tables → List ℕ
+lent_page (Ok n) t = heading_line n.routers n.prefixes ++ each (lent_text n.routers t) (span 0 n.prefixes)
+lent_page (Err e) t = refused_line (number_of e.refusal) e.place
 
 -- tables with the prefixes of a snapshot that was accepted, and a buffer in which any page fits
-pub record Ready (answer : Read) (ids distances address bits routes : List ℕ) (c : Columns) (room : ℕ) : Type 0 where
-  pub blocks : (n : Counts) → answer ≡ read.Accepted n → Blocks n.routers n.prefixes ids distances address bits routes c
+pub record Ready (answer : Result Counts Refused) (t : Tables) (room : ℕ) : Type 0 where
+  pub blocks : (n : Counts) → answer ≡ Ok n → Blocks n.routers n.prefixes t
   pub out_long : widest_page ≤ room

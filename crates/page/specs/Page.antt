@@ -1,9 +1,10 @@
 -- The printed forecast of a snapshot's bytes, and what rendering it answers and leaves.
-use Rattle.std.specs.Prelude.{ℕ, ◌+◌, ◌*◌, ◌≤◌, ◌<◌, ◌≡◌, not, List, [], ◌∷◌, ◌++◌, map, eqb, length, get_or}
+use Rattle.std.specs.Prelude.{ℕ, ◌+◌, ◌*◌, ◌≤◌, ◌<◌, ◌≡◌, not, List, [], ◌∷◌, ◌++◌, map, eqb, length, get_or, Result}
 use Rattle.std.proofs.lemmas.List.Edits.{sets}
 use Rattle.refusal.specs.declared.Refusal.{Refusal}
 use Rattle.refusal.specs.declared.Refusal.TheVariants.{Room}
-use Rattle.refusal.specs.Numbers.{number_of, Said, refuses, gives}
+use Rattle.refusal.specs.declared.Refused.{Refused}
+use Rattle.refusal.specs.Numbers.{number_of, Said, refuses, gives, said_by}
 use Rattle.model.specs.Rows.{span}
 use Rattle.model.specs.Decision.{Mesh, none}
 use Rattle.model.specs.Stability.{Between, differing}
@@ -13,8 +14,6 @@ use Rattle.snapshot.specs.Reading.{accepted, refused, reading}
 use Rattle.snapshot.specs.Tables.{mesh}
 use Rattle.text.specs.Text.{each}
 use Rattle.lines.specs.Lines.{widest, heading_line, refused_line, prefix_line, router_line}
-use Rattle.page.specs.declared.Rendered.{Rendered}
-use Rattle.page.specs.declared.Rendered.TheVariants.{Text, Refused}
 
 -- a prefix's line with the number of routers that differ, and below it router lines, for every router
 abbrev pub block : ℕ → ℕ → ℕ → (ℕ → ℕ) → ℕ → List ℕ → List ℕ → List ℕ
@@ -57,10 +56,9 @@ widest_block = widest * (1 + most_routers)
 abbrev pub widest_page : ℕ
 widest_page = widest + widest_block * most_prefixes
 
--- an answer in document 01's numbers
-abbrev pub said : Rendered → Said
-said (Text n) = gives (n ∷ [])
-said (Refused r at) = refuses r at
+-- an answer in numbers: how many bytes the page has, or a refusal with its place
+abbrev pub said : Result ℕ Refused → Said
+said = said_by (λ n. gives (n ∷ []))
 
 -- what rendering these bytes into a buffer answers, and what the buffer holds afterwards
 pub data Renders (bs out : List ℕ) : Said → List ℕ → Type 0 where

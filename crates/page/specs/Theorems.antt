@@ -1,7 +1,8 @@
 -- What is proved of the promise of the printed forecast, each theorem under the sentence of document 01 that it makes true.
-use Rattle.std.specs.Prelude.{ℕ, ◌<◌, ◌≡◌, ◌↔◌, List, ◌++◌, T, length}
+use Rattle.std.specs.Prelude.{ℕ, ◌<◌, ◌≡◌, ◌↔◌, List, ◌++◌, T, length, Result}
 use Rattle.std.proofs.Common.{ap}
 use Rattle.std.proofs.Math.Pow.{are_bytes}
+use Rattle.refusal.specs.declared.Refused.{Refused}
 use Rattle.model.specs.Stability.{Between, Only, differing}
 use Rattle.model.proofs.Theorems.{settled_only}
 use Rattle.snapshot.specs.Format.{Snapshot}
@@ -11,12 +12,11 @@ use Rattle.snapshot.proofs.Theorems.{accepts}
 use Rattle.tables.specs.Theorems.{sound}
 use Rattle.text.specs.Text.{ascii, decimal}
 use Rattle.lines.specs.Lines.{dotted, prefix_line}
-use Rattle.page.specs.declared.Rendered.{Rendered}
 use Rattle.page.specs.Page.{field_of, said, Renders}
 use Rattle.page.specs.AnswerLaws.{said_tells, same_said, line_zero}
 
 -- "Each public call's promise determines its result and the later contents of everything it was lent, for all inputs and refusals"
-pub renders_one : (bs : List ℕ) → T (are_bytes bs) → (a b : Rendered) {out x y : List ℕ} → Renders bs out (said a) x → Renders bs out (said b) y → (a ≡ b) × (x ≡ y)
+pub renders_one : (bs : List ℕ) → T (are_bytes bs) → (a b : Result ℕ Refused) {out x y : List ℕ} → Renders bs out (said a) x → Renders bs out (said b) y → (a ≡ b) × (x ≡ y)
 renders_one bs bytes a b p q = let (e, f) = same_said bs bytes p q in (said_tells a b e, f)
 
 -- the line with which the text of a prefix begins, for these early and late rows

@@ -1,16 +1,39 @@
 -- What the passes of a policy's sessions leave in the columns of the routes.
-use Rattle.std.specs.Prelude.{ℕ, zero, suc, ◌≤◌, ◌<◌, ◌≡◌, cond, List, [], ◌∷◌, length, leb, ltb}
+use Rattle.std.specs.Prelude.{ℕ, zero, suc, ◌≤◌, ◌<◌, ◌≡◌, Bool, cond, List, [], ◌∷◌, length, set, leb, ltb}
 use Rattle.model.specs.Rows.{table, column, start}
 use Rattle.model.specs.Decision.{Route}
 use Rattle.snapshot.specs.Limits.{most_prefixes}
-use Rattle.snapshot.specs.Tables.{Columns, columns}
+use Rattle.snapshot.specs.Tables.{Columns, columns, Tables, tables}
 use Rattle.tables.specs.Judging.{route_at}
-use Rattle.policy.specs.Policy.{Session, Policy}
+use Rattle.policy.specs.Policy.{Clause, Session, Policy}
+use Rattle.policy.specs.Rewriting.{preferred}
 use Rattle.policy.specs.Passing.{unruled, pass}
+use Rattle.passes.specs.declared.RewriteTables as lent
 
--- the columns that a policy looks at or rewrites; the others are not lent
-abbrev pub seen : List ℕ → List ℕ → List ℕ → List ℕ → List ℕ → List ℕ → List ℕ → Columns
-seen router asn preference path mark med peer = columns router asn preference path [] mark med [] peer
+-- the columns among lent tables,
+abbrev pub rewrite_columns : lent.RewriteTables → Columns
+rewrite_columns t = columns t.router.now t.asn.now t.preference.now t.path.now t.origin.now t.mark.now t.med.now t.nid.now t.peer.now
+
+-- and all of them
+abbrev pub rewrite_tables : lent.RewriteTables → Tables
+rewrite_tables t = tables t.ids.now t.distances.now t.address.now t.bits.now t.routes.now (rewrite_columns t)
+
+-- the tables lent are the same as before, whatever stands in those that are lent to be rewritten
+pub record KeepsRewrite (a b : lent.RewriteTables) : Type 0 where
+  pub ids : b.ids ≡ a.ids
+  pub distances : b.distances ≡ a.distances
+  pub address : b.address ≡ a.address
+  pub bits : b.bits ≡ a.bits
+  pub routes : b.routes ≡ a.routes
+  pub router : b.router ≡ a.router
+  pub asn : b.asn ≡ a.asn
+  pub path : b.path ≡ a.path
+  pub origin : b.origin ≡ a.origin
+  pub nid : b.nid ≡ a.nid
+  pub peer : b.peer ≡ a.peer
+  pub preference : b.preference.ghost_name ≡ a.preference.ghost_name
+  pub mark : b.mark.ghost_name ≡ a.mark.ghost_name
+  pub med : b.med.ghost_name ≡ a.med.ghost_name
 
 -- an entry below n is new, another as it was
 abbrev pub entry : ℕ → (ℕ → ℕ) → List ℕ → ℕ → ℕ
@@ -43,16 +66,23 @@ owner_of routes (suc n) q = cond (leb (start routes n) q) n (owner_of routes n q
 pub record Owned (routes : List ℕ) (n : ℕ) (owner : List ℕ) : Type 0 where
   pub marked : (q : ℕ) → q < start routes n → column owner q ≡ owner_of routes n q
 
--- the rows from one to another are marked with a number, those before them are as they were
-pub record Marked (p row end : ℕ) (before after : List ℕ) : Type 0 where
-  pub within : row ≤ end
-  pub long : length after ≡ length before
-  pub marked : (q : ℕ) → row ≤ q → q < end → column after q ≡ p
-  pub others : (q : ℕ) → q < row → column after q ≡ column before q
-
 -- a field of the prefix that a row belongs to, where `owner` has its number
 abbrev pub of_row : List ℕ → List ℕ → ℕ → ℕ
 of_row field owner q = column field (column owner q)
+
+-- the route in a row rewritten by a session's clauses and by whether MED is set to 0 on it; `address` and `bits` tell its prefix
+abbrev pub ruled_row : List Clause → Bool → ℕ → ℕ → ℕ → Columns → Columns
+ruled_row cs reset address bits q c = record {
+  router = c.router;
+  asn = c.asn;
+  preference = set c.preference q (preferred cs address bits (column c.path q) (column c.asn q));
+  path = c.path;
+  origin = c.origin;
+  mark = cond reset (set c.mark q 1) c.mark;
+  med = cond reset (set c.med q 0) c.med;
+  nid = c.nid;
+  peer = c.peer;
+}
 
 -- the pass of one session along n rows; `address` and `bits` tell the prefix of a row
 abbrev pub passed : Session → (ℕ → ℕ) → (ℕ → ℕ) → ℕ → Columns → Columns
@@ -81,18 +111,17 @@ pub record Long (n : ℕ) (c : Columns) : Type 0 where
   pub med : n ≤ length c.med
   pub peer : n ≤ length c.peer
 
--- each of so many rows has the number of a prefix, and each prefix an address and a length
-pub record Told (rows : ℕ) (owner address bits : List ℕ) : Type 0 where
-  pub owners : rows ≤ length owner
-  pub below : (q : ℕ) → q < rows → column owner q < most_prefixes
-  pub addresses : most_prefixes ≤ length address
-  pub lengths : most_prefixes ≤ length bits
+-- each row has the number of a prefix, and each prefix an address and a length
+pub record Told (owner : List ℕ) (t : Tables) : Type 0 where
+  pub below : (q : ℕ) → q < length owner → column owner q < most_prefixes
+  pub addresses : most_prefixes ≤ length t.address
+  pub lengths : most_prefixes ≤ length t.bits
 
 -- so many prefixes and rows, and tables with room for them
-pub record Lent (prefixes rows : ℕ) (address bits routes : List ℕ) (c : Columns) : Type 0 where
+pub record Lent (prefixes rows : ℕ) (t : Tables) : Type 0 where
   pub few : prefixes ≤ most_prefixes
-  pub addresses : most_prefixes ≤ length address
-  pub lengths : most_prefixes ≤ length bits
-  pub counted : most_prefixes ≤ length routes
-  pub total : rows ≡ start routes prefixes
-  pub columns : Long rows c
+  pub addresses : most_prefixes ≤ length t.address
+  pub lengths : most_prefixes ≤ length t.bits
+  pub counted : most_prefixes ≤ length t.routes
+  pub total : rows ≡ start t.routes prefixes
+  pub columns : Long rows t.rows

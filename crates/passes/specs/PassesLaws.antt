@@ -1,19 +1,21 @@
--- What the loops along the rows know, and how passes come together.
-use Rattle.std.specs.Prelude.{ℕ, zero, suc, ◌+◌, ◌≤◌, ◌<◌, ◌≡◌, refl, Bool, true, false, cond, List, [], ◌∷◌, length, get_or, set, leb, ltb}
-use Rattle.std.proofs.Common.{zero-le, not-suc-le-zero, add-one, arith, sym, ap, ◌∙◌, subst, length-set, ext_get_or, get_or-set_same, get_or-set_other, lt-ltb, le-ltb, le-leb}
-use Rattle.std.proofs.Math.Decide.{dec_le}
+-- How passes alter columns row by row, and how they come together.
+use Rattle.std.specs.Prelude.{ℕ, zero, suc, ◌+◌, ◌-◌, ◌≤◌, ◌<◌, ◌≡◌, ◌≢◌, refl, Bool, true, false, cond, List, [], ◌∷◌, ◌++◌, length, get_or, set, take, drop, leb, ltb}
+use borrow.Rule.Slice.PartMut.{mid_of, post_of, put_mid}
+use Rattle.std.proofs.lemmas.List.{get_or-append_right, get_or-take, get_or-replicate, length-take, length-take-le, length-replicate}
+use Rattle.std.proofs.Math.ListN.{get_or-append}
+use Rattle.std.proofs.Common.{not-suc-le-zero, add-one, arith, replicate, sym, ap, ap₂, ◌∙◌, subst, length-set, length-append, length-drop, get_or-drop, ext_get_or, get_or-set_same, get_or-set_other, lt-ltb, le-ltb, le-leb}
+use Rattle.std.proofs.Math.Decide.{dec_le, ℕ_discrete}
 use Rattle.std.proofs.lemmas.Bool.{lt-leb}
 use Rattle.model.specs.Rows.{table, column, start}
-use Rattle.model.proofs.RowLaws.{table_length, table_at, table_same, start_first, start_next}
-use Rattle.model.proofs.LoopLaws.{Stored, stored, stored_next, stored_skip}
+use Rattle.model.proofs.RowLaws.{table_length, table_at, table_same, start_first, start_next, start_within}
 use Rattle.model.specs.Decision.{Route}
-use Rattle.snapshot.specs.Tables.{Columns, columns}
+use Rattle.snapshot.specs.Tables.{Columns, columns, Tables}
 use Rattle.tables.specs.Judging.{route_at}
 use Rattle.tables.specs.PartsLaws.{columns_are}
-use Rattle.policy.specs.Policy.{Policy}
-use Rattle.policy.specs.Rewriting.{usual, with}
+use Rattle.policy.specs.Policy.{Session, Policy}
+use Rattle.policy.specs.Rewriting.{usual, with, by_session, with_rows}
 use Rattle.policy.specs.Passing.{unruled, pass, passes}
-use Rattle.passes.specs.Passes.{seen, entry, entries, altered, owner_of, Owned, Marked, of_row, prefix_field, passed, passed_all, applied, Long, Told, Lent}
+use Rattle.passes.specs.Passes.{entry, entries, altered, owner_of, Owned, of_row, prefix_field, ruled_row, passed_all, applied, Long, Told, Lent}
 
 -- ---- a field altered row by row
 
@@ -23,28 +25,75 @@ entry_new n new xs q l = ap (λ (b : Bool). cond b (new q) (column xs q)) (lt-lt
 pub entry_old : (n : ℕ) (new : ℕ → ℕ) (xs : List ℕ) (q : ℕ) → n ≤ q → entry n new xs q ≡ column xs q
 entry_old n new xs q l = ap (λ (b : Bool). cond b (new q) (column xs q)) (le-ltb q n l)
 
--- where all rows below n are stored, the whole list is
-pub stored_part : (n : ℕ) (new : ℕ → ℕ) (xs₀ xs : List ℕ) (i : ℕ) → Stored 0 (entry n new xs₀) (length xs₀) xs₀ i xs → n ≤ i
-    → xs ≡ entries n new xs₀
-stored_part n new xs₀ xs i s l =
-    let f = entry n new xs₀ in
-    let g = s.long in
-    let e = table_length (length xs₀) f in
-    ext_get_or 0 xs (table (length xs₀) f) (omega arith)
-    (λ k m. at k (omega arith) (dec_le i k) ∙ sym (table_at f 0 (length xs₀) k (omega arith)))
+-- rows from n on are as they were, also where one more is new
+entry_step : (n : ℕ) (new : ℕ → ℕ) (xs : List ℕ) (q : ℕ) → q ≢ n → entry n new xs q ≡ entry (n + 1) new xs q
+entry_step n new xs q ne = go (dec_le n q)
   where
-    at : (k : ℕ) → k < length xs₀ → Dec (i ≤ k) → get_or xs k 0 ≡ entry n new xs₀ k
-    at k m (yes h) = s.ahead k h ∙ sym (entry_old n new xs₀ k (omega arith))
-    at k m (no h) = s.done k (omega arith)
+    go : Dec (n ≤ q) → entry n new xs q ≡ entry (n + 1) new xs q
+    go (yes h) = entry_old n new xs q h ∙ sym (entry_old (n + 1) new xs q (omega arith))
+    go (no h) = entry_new n new xs q (omega arith) ∙ sym (entry_new (n + 1) new xs q (omega arith))
+
+entries_at : (n : ℕ) (new : ℕ → ℕ) (xs : List ℕ) (q : ℕ) → q < length xs → column (entries n new xs) q ≡ entry n new xs q
+entries_at n new xs q l = table_at (entry n new xs) 0 (length xs) q l
+
+entries_length : (n : ℕ) (new : ℕ → ℕ) (xs : List ℕ) → length (entries n new xs) ≡ length xs
+entries_length n new xs = table_length (length xs) (entry n new xs)
+
+-- a list of which no entry is new
+entries_none : (new : ℕ → ℕ) (xs : List ℕ) → entries 0 new xs ≡ xs
+entries_none new xs = ext_get_or 0 (entries 0 new xs) xs (entries_length 0 new xs) (λ k l. entries_at 0 new xs k (omega (arith, entries_length 0 new xs)) ∙ entry_old 0 new xs k (omega arith))
+
+-- one entry more
+entries_next : {n v : ℕ} (new : ℕ → ℕ) (xs : List ℕ) → n < length xs → v ≡ new n → set (entries n new xs) n v ≡ entries (n + 1) new xs
+entries_next {n} {v} new xs h e =
+    let a = length-set (entries n new xs) n v in
+    let b = entries_length n new xs in
+    ext_get_or 0 (set (entries n new xs) n v) (entries (n + 1) new xs) (a ∙ b ∙ sym (entries_length (n + 1) new xs))
+    (λ k l. at k (omega arith) (ℕ_discrete k n))
+  where
+    at : (k : ℕ) → k < length xs → Dec (k ≡ n) → get_or (set (entries n new xs) n v) k 0 ≡ get_or (entries (n + 1) new xs) k 0
+    at k l (yes is) =
+        ap (λ (m : ℕ). get_or (set (entries n new xs) n v) m 0) is
+        ∙ get_or-set_same (entries n new xs) n v 0 (omega (arith, entries_length n new xs))
+        ∙ e
+        ∙ sym (ap (λ (m : ℕ). get_or (entries (n + 1) new xs) m 0) is ∙ entries_at (n + 1) new xs n h ∙ entry_new (n + 1) new xs n (omega arith))
+    at k l (no ne) =
+        get_or-set_other (entries n new xs) n k v 0 ne
+        ∙ entries_at n new xs k l ∙ entry_step n new xs k ne ∙ sym (entries_at (n + 1) new xs k l)
+
+-- that stays as it was
+entries_skip : (n : ℕ) (new : ℕ → ℕ) (xs : List ℕ) → new n ≡ column xs n → entries n new xs ≡ entries (n + 1) new xs
+entries_skip n new xs e = table_same (entry n new xs) (entry (n + 1) new xs) (length xs) (λ k l. at k (ℕ_discrete k n))
+  where
+    at : (k : ℕ) → Dec (k ≡ n) → entry n new xs k ≡ entry (n + 1) new xs k
+    at k (yes is) =
+        ap (entry n new xs) is ∙ entry_old n new xs n (omega arith) ∙ sym e
+        ∙ sym (entry_new (n + 1) new xs n (omega arith)) ∙ sym (ap (entry (n + 1) new xs) is)
+    at k (no ne) = entry_step n new xs k ne
+
+-- the first so many filled with one number
+pub entries_filled : (n v : ℕ) (xs ys : List ℕ) → n ≤ length xs → ys ≡ replicate (length (take n xs)) v → ys ++ drop n xs ≡ entries n (λ q. v) xs
+entries_filled n v xs ys room e =
+    let some = length-take-le n xs room in
+    let a : length ys ≡ n = ap length e ∙ length-replicate (length (take n xs)) v ∙ some in
+    let b = length-append ys (drop n xs) in
+    let d = length-drop n xs in
+    ext_get_or 0 (ys ++ drop n xs) (entries n (λ q. v) xs) (omega (arith, entries_length n (λ q. v) xs))
+    (λ k l. at k a (dec_le n k) ∙ sym (entries_at n (λ q. v) xs k (omega arith)))
+  where
+    at : (k : ℕ) → length ys ≡ n → Dec (n ≤ k) → get_or (ys ++ drop n xs) k 0 ≡ entry n (λ q. v) xs k
+    at k a (yes h) =
+        get_or-append_right ys (drop n xs) n k 0 a h
+        ∙ get_or-drop n xs (k - n) 0
+        ∙ ap (λ (j : ℕ). get_or xs j 0) (let j : n + (k - n) ≡ k = omega arith in j)
+        ∙ sym (entry_old n (λ q. v) xs k h)
+    at k a (no h) =
+        get_or-append ys (drop n xs) 0 k (omega arith)
+        ∙ ap (λ (zs : List ℕ). get_or zs k 0) e
+        ∙ get_or-replicate (length (take n xs)) k v 0 (omega (arith, length-take-le n xs room))
+        ∙ sym (entry_new n (λ q. v) xs k (omega arith))
 
 -- ---- one pass along the rows
-
--- q rows are altered
-pub record Along (f : ℕ → Route → Route) (n : ℕ) (c : Columns) (q : ℕ) (preference mark med : List ℕ) : Type 0 where
-  pub within : q ≤ n
-  pub preferences : Stored 0 (entry n (λ q. (f q (route_at c q)).preference) c.preference) (length c.preference) c.preference q preference
-  pub marks : Stored 0 (entry n (λ q. (f q (route_at c q)).mark) c.mark) (length c.mark) c.mark q mark
-  pub meds : Stored 0 (entry n (λ q. (f q (route_at c q)).med) c.med) (length c.med) c.med q med
 
 -- the columns that are rewritten have so many rows
 pub record Has (n : ℕ) (c : Columns) : Type 0 where
@@ -52,66 +101,81 @@ pub record Has (n : ℕ) (c : Columns) : Type 0 where
   pub mark : n ≤ length c.mark
   pub med : n ≤ length c.med
 
-module _ (f : ℕ → Route → Route) (n : ℕ) (c : Columns) where
-  pub along : Along f n c 0 c.preference c.mark c.med
-  along = record { within = zero-le; preferences = stored refl; marks = stored refl; meds = stored refl }
-
-  module _ (has : Has n c) {q : ℕ} {preference mark med : List ℕ} (a : Along f n c q preference mark med) where
-    -- a row that keeps all three
-    pub along_skip : q < n → f q (route_at c q) ≡ route_at c q → Along f n c (q + 1) preference mark med
-    along_skip l e = record {
-      within = omega arith;
-      preferences = stored_skip a.preferences (omega (arith, has.preference)) (sym (entry_new n (λ q. (f q (route_at c q)).preference) c.preference q l ∙ ap (λ (r : Route). r.preference) e));
-      marks = stored_skip a.marks (omega (arith, has.mark)) (sym (entry_new n (λ q. (f q (route_at c q)).mark) c.mark q l ∙ ap (λ (r : Route). r.mark) e));
-      meds = stored_skip a.meds (omega (arith, has.med)) (sym (entry_new n (λ q. (f q (route_at c q)).med) c.med q l ∙ ap (λ (r : Route). r.med) e));
-    }
-
-    -- a row in which all three are stored
-    pub along_next : {p m d : ℕ} → q < n → p ≡ (f q (route_at c q)).preference → m ≡ (f q (route_at c q)).mark → d ≡ (f q (route_at c q)).med
-        → Along f n c (q + 1) (set preference q p) (set mark q m) (set med q d)
-    along_next l e1 e2 e3 = record {
-      within = omega arith;
-      preferences = stored_next a.preferences (omega (arith, has.preference)) (e1 ∙ sym (entry_new n (λ q. (f q (route_at c q)).preference) c.preference q l));
-      marks = stored_next a.marks (omega (arith, has.mark)) (e2 ∙ sym (entry_new n (λ q. (f q (route_at c q)).mark) c.mark q l));
-      meds = stored_next a.meds (omega (arith, has.med)) (e3 ∙ sym (entry_new n (λ q. (f q (route_at c q)).med) c.med q l));
-    }
-
-    -- the entries ahead are as they were
-    pub mark_ahead : column mark q ≡ column c.mark q
-    mark_ahead = a.marks.ahead q (omega arith)
-
-    pub med_ahead : column med q ≡ column c.med q
-    med_ahead = a.meds.ahead q (omega arith)
-
-  -- all rows
-  pub along_end : {q : ℕ} {preference mark med : List ℕ} → Along f n c q preference mark med → n ≤ q
-      → record { router = c.router; asn = c.asn; preference = preference; path = c.path; origin = c.origin; mark = mark; med = med; nid = c.nid; peer = c.peer } ≡ altered n f c
-  along_end {q} {preference} {mark} {med} a l =
-      columns_are (altered n f c) refl refl
-      (stored_part n (λ q. (f q (route_at c q)).preference) c.preference preference q a.preferences l)
+module _ (f : ℕ → Route → Route) (c : Columns) where
+  -- no row is altered
+  pub altered_none : altered 0 f c ≡ c
+  altered_none =
+      columns_are c refl refl
+      (entries_none (λ q. (f q (route_at c q)).preference) c.preference)
       refl refl
-      (stored_part n (λ q. (f q (route_at c q)).mark) c.mark mark q a.marks l)
-      (stored_part n (λ q. (f q (route_at c q)).med) c.med med q a.meds l)
+      (entries_none (λ q. (f q (route_at c q)).mark) c.mark)
+      (entries_none (λ q. (f q (route_at c q)).med) c.med)
       refl refl
+
+  -- one row more, that keeps all three
+  pub altered_skip : (n : ℕ) → f n (route_at c n) ≡ route_at c n → altered n f c ≡ altered (n + 1) f c
+  altered_skip n e =
+      columns_are (altered (n + 1) f c) refl refl
+      (entries_skip n (λ q. (f q (route_at c q)).preference) c.preference (ap (λ (r : Route). r.preference) e))
+      refl refl
+      (entries_skip n (λ q. (f q (route_at c q)).mark) c.mark (ap (λ (r : Route). r.mark) e))
+      (entries_skip n (λ q. (f q (route_at c q)).med) c.med (ap (λ (r : Route). r.med) e))
+      refl refl
+
+  -- that is rewritten by a session
+  pub altered_next : {n : ℕ} → Has (n + 1) c → (s : Session) (address bits : ℕ) → f n (route_at c n) ≡ by_session s address bits (route_at c n)
+      → ruled_row s.clauses s.zero address bits n (altered n f c) ≡ altered (n + 1) f c
+  altered_next {n} has s address bits e =
+      columns_are (altered (n + 1) f c) refl refl
+      (entries_next (λ q. (f q (route_at c q)).preference) c.preference (omega (arith, has.preference)) (sym (ap (λ (r : Route). r.preference) e)))
+      refl refl
+      (reset s.zero (λ q. (f q (route_at c q)).mark) c.mark (omega (arith, has.mark)) 1 (ap (λ (r : Route). r.mark) e))
+      (reset s.zero (λ q. (f q (route_at c q)).med) c.med (omega (arith, has.med)) 0 (ap (λ (r : Route). r.med) e))
+      refl refl
+    where
+      reset : (zero : Bool) (new : ℕ → ℕ) (xs : List ℕ) → n < length xs → (v : ℕ) → new n ≡ cond zero v (column xs n)
+          → cond zero (set (entries n new xs) n v) (entries n new xs) ≡ entries (n + 1) new xs
+      reset true new xs l v is = entries_next new xs l (sym is)
+      reset false new xs l v is = entries_skip n new xs is
 
 -- ---- the prefix of a row
 
 pub owned : (routes owner : List ℕ) → Owned routes 0 owner
 owned routes owner = record { marked = λ q l. absurd (let e = start_first routes in omega arith) }
 
-module _ {routes owner after : List ℕ} {p : ℕ} (o : Owned routes p owner) where
+module _ {routes owner : List ℕ} {p : ℕ} (o : Owned routes p owner) where
   -- the rows of one more prefix are marked
-  pub owned_next : {row end : ℕ} → Marked p row end owner after → row ≡ start routes p → end ≡ row + column routes p → Owned routes (p + 1) after
-  owned_next {row} {end} m s e = record { marked = λ q l. at q (subst (λ (x : ℕ). q < x) (start_next routes p) l) (dec_le (start routes p) q) ∙ ap (λ (n : ℕ). owner_of routes n q) (sym (add-one p)) }
+  pub owned_next : (row count : ℕ) (marks : List ℕ) → row ≡ start routes p → count ≡ column routes p → row + count ≤ length owner
+      → marks ≡ replicate (length (mid_of row (row + count - row) owner)) p → Owned routes (p + 1) (put_mid row (row + count - row) owner marks)
+  owned_next row count marks s e room filled = record {
+    marked = λ q l. at q (subst (λ (x : ℕ). q < x) (start_next routes p) l) (dec_le row q) ∙ ap (λ (n : ℕ). owner_of routes n q) (sym (add-one p));
+  }
     where
-      at : (q : ℕ) → q < start routes p + column routes p → Dec (start routes p ≤ q) → column after q ≡ owner_of routes (suc p) q
-      at q l (yes h) = m.marked q (omega arith) (omega arith) ∙ sym (ap (λ (b : Bool). cond b p (owner_of routes p q)) (le-leb (start routes p) q h))
+      is : marks ≡ replicate count p
+      is =
+          let long : length (mid_of row (row + count - row) owner) ≡ count = omega (arith, length-take (row + count - row) (drop row owner), length-drop row owner) in
+          filled ∙ ap (λ (m : ℕ). replicate m p) long
+
+      at : (q : ℕ) → q < start routes p + column routes p → Dec (row ≤ q) → column (put_mid row (row + count - row) owner marks) q ≡ owner_of routes (suc p) q
+      at q l (yes h) =
+          get_or-append_right (take row owner) (marks ++ post_of row (row + count - row) owner) row q 0 (length-take-le row owner (omega arith)) h
+          ∙ get_or-append marks (post_of row (row + count - row) owner) 0 (q - row) (omega (arith, ap length is, length-replicate count p))
+          ∙ ap (λ (xs : List ℕ). get_or xs (q - row) 0) is
+          ∙ get_or-replicate count (q - row) p 0 (omega arith)
+          ∙ sym (ap (λ (b : Bool). cond b p (owner_of routes p q)) (le-leb (start routes p) q (omega arith)))
       at q l (no h) =
-          m.others q (omega arith) ∙ o.marked q (omega arith)
+          get_or-append (take row owner) (marks ++ post_of row (row + count - row) owner) 0 q (omega (arith, length-take-le row owner (omega arith)))
+          ∙ get_or-take row owner q 0 (omega arith)
+          ∙ o.marked q (omega arith)
           ∙ sym (ap (λ (b : Bool). cond b p (owner_of routes p q)) (lt-leb (start routes p) q (omega arith)))
 
-pub owned_end : {routes owner : List ℕ} {p n : ℕ} → Owned routes p owner → p ≤ n → n ≤ p → Owned routes n owner
-owned_end {routes} {owner} {p} {n} o h l = subst (λ (x : ℕ). Owned routes x owner) (let e : p ≡ n = omega arith in e) o
+-- what is read of the first so many numbers of routes, and that the rows of each such prefix end before the last one's do
+module _ (routes : List ℕ) (n p : ℕ) (enough : n ≤ length routes) (l : p < length (take n routes)) where
+  pub count_read : get_or (take n routes) p 0 ≡ column routes p
+  count_read = get_or-take n routes p 0 (omega (arith, length-take-le n routes enough))
+
+  pub rows_within : {row : ℕ} → row ≡ start routes p → row + get_or (take n routes) p 0 ≤ start routes n
+  rows_within s = omega (arith, count_read, start_within routes p n (omega (arith, length-take-le n routes enough)))
 
 -- it is one of those prefixes
 pub owner_below : (routes : List ℕ) (n q : ℕ) → 0 < n → owner_of routes n q < n
@@ -126,30 +190,6 @@ owner_below routes (suc (suc n)) q l = go (leb (start routes (suc n)) q) (owner_
     go : (b : Bool) → owner_of routes (suc n) q < suc n → cond b (suc n) (owner_of routes (suc n) q) < suc (suc n)
     go true h = omega arith
     go false h = omega arith
-
--- ---- marking the rows of a prefix
-
-pub marked : (p row : ℕ) (owner : List ℕ) → Marked p row row owner owner
-marked p row owner = record { within = omega arith; long = refl; marked = λ q h l. absurd (omega arith); others = λ q l. refl }
-
-pub marked_next : {p row q v : ℕ} {before after : List ℕ} → Marked p row q before after → q < length after → v ≡ p → Marked p row (q + 1) before (set after q v)
-marked_next {p} {row} {q} {v} {before} {after} m l e =
-    let w = m.within in
-    record {
-      within = omega arith;
-      long = length-set after q v ∙ m.long;
-      marked = λ k h j. at k h j (dec_le q k);
-      others = λ k j. get_or-set_other after q k v 0 (omega arith) ∙ m.others k j;
-    }
-  where
-    at : (k : ℕ) → row ≤ k → k < q + 1 → Dec (q ≤ k) → column (set after q v) k ≡ p
-    at k h j (yes i) =
-        let same : k ≡ q = omega arith in
-        ap (λ (x : ℕ). column (set after q v) x) same ∙ get_or-set_same after q v 0 l ∙ e
-    at k h j (no i) = get_or-set_other after q k v 0 (omega arith) ∙ m.marked k h (omega arith)
-
-pub marked_end : {p row q end : ℕ} {before after : List ℕ} → Marked p row q before after → q ≤ end → end ≤ q → Marked p row end before after
-marked_end {p} {row} {q} {end} {before} {after} m h l = subst (λ (x : ℕ). Marked p row x before after) (let e : q ≡ end = omega arith in e) m
 
 -- ---- passes one after the other
 
@@ -224,15 +264,6 @@ module _ (address bits : ℕ → ℕ) (n : ℕ) where
   pub passes_all : (policy : Policy) (c : Columns) → Has n c → applied policy address bits n c ≡ altered n (λ q r. passes policy (address q) (bits q) (unruled r)) c
   passes_all policy c has = passed_from policy (λ q. unruled) (λ q r. refl) c has
 
--- the lists that are rewritten stay as long
-pub altered_long : (n : ℕ) (f : ℕ → Route → Route) (c : Columns) {c' : Columns} → c' ≡ altered n f c
-    → (length c'.preference ≡ length c.preference) × (length c'.mark ≡ length c.mark) × (length c'.med ≡ length c.med)
-altered_long n f c e = (
-  ap (λ (d : Columns). length d.preference) e ∙ table_length (length c.preference) (entry n (λ q. (f q (route_at c q)).preference) c.preference),
-  ap (λ (d : Columns). length d.mark) e ∙ table_length (length c.mark) (entry n (λ q. (f q (route_at c q)).mark) c.mark),
-  ap (λ (d : Columns). length d.med) e ∙ table_length (length c.med) (entry n (λ q. (f q (route_at c q)).med) c.med),
-)
-
 -- rows below n alone count
 pub altered_same : (n : ℕ) (c : Columns) (f g : ℕ → Route → Route) → ((q : ℕ) → q < n → (r : Route) → f q r ≡ g q r) → altered n f c ≡ altered n g c
 altered_same n c f g e =
@@ -259,28 +290,35 @@ pub long_has : {n : ℕ} {c : Columns} → Long n c → Has n c
 long_has l = record { preference = l.preference; mark = l.mark; med = l.med }
 
 -- after a pass the columns are as long
-pub long_again : {n : ℕ} {router asn preference path mark med peer preference' mark' med' : List ℕ} → Long n (seen router asn preference path mark med peer)
-    → length preference' ≡ length preference → length mark' ≡ length mark → length med' ≡ length med
-    → Long n (seen router asn preference' path mark' med' peer)
-long_again l e1 e2 e3 = record {
+pub long_again : {n : ℕ} (m : ℕ) (f : ℕ → Route → Route) (c : Columns) → Long n c → Long n (altered m f c)
+long_again m f c l = record {
   router = l.router;
   asn = l.asn;
-  preference = omega (arith, l.preference);
+  preference = omega (arith, l.preference, entries_length m (λ q. (f q (route_at c q)).preference) c.preference);
   path = l.path;
-  mark = omega (arith, l.mark);
-  med = omega (arith, l.med);
+  mark = omega (arith, l.mark, entries_length m (λ q. (f q (route_at c q)).mark) c.mark);
+  med = omega (arith, l.med, entries_length m (λ q. (f q (route_at c q)).med) c.med);
   peer = l.peer;
 }
 
+pub long_less : {m n : ℕ} {c : Columns} → m ≤ n → Long n c → Long m c
+long_less h l = record {
+  router = omega (arith, l.router);
+  asn = omega (arith, l.asn);
+  preference = omega (arith, l.preference);
+  path = omega (arith, l.path);
+  mark = omega (arith, l.mark);
+  med = omega (arith, l.med);
+  peer = omega (arith, l.peer);
+}
+
 -- rows that are marked are told
-pub owners_told : {prefixes rows : ℕ} {address bits routes owner : List ℕ} {c : Columns} → Lent prefixes rows address bits routes c → rows ≤ length owner
-    → Owned routes prefixes owner → Told rows owner address bits
-owners_told {prefixes} {rows} {routes = routes} {owner = owner} l room o = record {
-  owners = room;
+pub owners_told : {prefixes rows : ℕ} {t : Tables} {owner : List ℕ} → Lent prefixes rows t → rows ≡ length owner → Owned t.routes prefixes owner → Told owner t
+owners_told {prefixes} {rows} {t} {owner} l room o = record {
   below = λ q h.
-      let t = l.total in
-      let some : 0 < prefixes = some_prefix q h in
-      omega (arith, o.marked q (omega arith), owner_below routes prefixes q some, l.few);
+      let k = l.total in
+      let some : 0 < prefixes = some_prefix q (omega arith) in
+      omega (arith, o.marked q (omega arith), owner_below t.routes prefixes q some, l.few);
   addresses = l.addresses;
   lengths = l.lengths;
 }
@@ -292,16 +330,16 @@ owners_told {prefixes} {rows} {routes = routes} {owner = owner} l room o = recor
         go (yes y) = y
         go (no n) =
             let z : prefixes ≡ 0 = omega arith in
-            absurd (omega (arith, h, l.total, ap (start routes) z, start_first routes))
+            absurd (omega (arith, h, l.total, ap (start t.routes) z, start_first t.routes))
 
 -- and the passes are those by the prefixes themselves
-pub owners_applied : {prefixes rows : ℕ} {address bits routes owner : List ℕ} {c : Columns} (policy : Policy) → Lent prefixes rows address bits routes c → Owned routes prefixes owner
-    → Has rows c
-    → applied policy (of_row address owner) (of_row bits owner) rows c ≡ applied policy (prefix_field address routes prefixes) (prefix_field bits routes prefixes) rows c
-owners_applied {prefixes} {rows} {address} {bits} {routes} {owner} {c} policy l o has =
-    passes_all (of_row address owner) (of_row bits owner) rows policy c has
-    ∙ altered_same rows c _ _ (λ q h r. ap (λ (p : ℕ). passes policy (column address p) (column bits p) (unruled r)) (o.marked q (let t = l.total in omega arith)))
-    ∙ sym (passes_all (prefix_field address routes prefixes) (prefix_field bits routes prefixes) rows policy c has)
+pub owners_applied : {prefixes rows : ℕ} {t : Tables} {owner : List ℕ} (policy : Policy) → Lent prefixes rows t → Owned t.routes prefixes owner
+    → applied policy (of_row t.address owner) (of_row t.bits owner) rows t.rows
+    ≡ applied policy (prefix_field t.address t.routes prefixes) (prefix_field t.bits t.routes prefixes) rows t.rows
+owners_applied {prefixes} {rows} {t} {owner} policy l o =
+    passes_all (of_row t.address owner) (of_row t.bits owner) rows policy t.rows (long_has l.columns)
+    ∙ altered_same rows t.rows _ _ (λ q h r. ap (λ (p : ℕ). passes policy (column t.address p) (column t.bits p) (unruled r)) (o.marked q (let k = l.total in omega arith)))
+    ∙ sym (passes_all (prefix_field t.address t.routes prefixes) (prefix_field t.bits t.routes prefixes) rows policy t.rows (long_has l.columns))
 
 -- ---- the whole
 
@@ -315,35 +353,17 @@ entries_kept n xs =
     either_way true x = refl
     either_way false x = refl
 
-module _ {prefixes rows : ℕ} {address bits routes router asn preference path mark med peer : List ℕ} (l : Lent prefixes rows address bits routes (seen router asn preference path mark med peer))
-    {owner preference' : List ℕ} (o : Owned routes prefixes owner) (u : preference' ≡ entries rows (λ q. usual) preference) where
-  -- every preference set to 100
-  usual_altered : seen router asn preference' path mark med peer ≡ altered rows (λ q. unruled) (seen router asn preference path mark med peer)
-  usual_altered =
-      columns_are (altered rows (λ q. unruled) (seen router asn preference path mark med peer)) refl refl u refl refl
-      (sym (entries_kept rows mark)) (sym (entries_kept rows med)) refl refl
+-- every preference set to 100
+usual_altered : (n : ℕ) (c : Columns) {xs : List ℕ} → xs ≡ entries n (λ q. usual) c.preference
+    → columns c.router c.asn xs c.path c.origin c.mark c.med c.nid c.peer ≡ altered n (λ q. unruled) c
+usual_altered n c u = columns_are (altered n (λ q. unruled) c) refl refl u refl refl (sym (entries_kept n c.mark)) (sym (entries_kept n c.med)) refl refl
 
-  -- the passes have room
-  pub usual_long : Long rows (seen router asn preference' path mark med peer)
-  usual_long = long_again l.columns (ap length u ∙ table_length (length preference) (entry rows (λ q. usual) preference)) refl refl
-
-  -- then the passes
-  pub applied_in : (policy : Policy) {c : Columns} → c ≡ passed_all policy (of_row address owner) (of_row bits owner) rows (seen router asn preference' path mark med peer)
-      → c ≡ applied policy (prefix_field address routes prefixes) (prefix_field bits routes prefixes) rows (seen router asn preference path mark med peer)
-  applied_in policy e =
-      e ∙ ap (passed_all policy (of_row address owner) (of_row bits owner) rows) usual_altered ∙ owners_applied policy l o (long_has l.columns)
-
--- ---- columns that no policy looks at
-
--- columns with other origins and neighbour ids
-abbrev pub with_others : Columns → List ℕ → List ℕ → Columns
-with_others c origin nid = columns c.router c.asn c.preference c.path origin c.mark c.med nid c.peer
-
-module _ (address bits : ℕ → ℕ) (n : ℕ) where
-  passed_others : (policy : Policy) (c : Columns) (origin nid : List ℕ) → passed_all policy address bits n (with_others c origin nid) ≡ with_others (passed_all policy address bits n c) origin nid
-  passed_others [] c origin nid = refl
-  passed_others (s ∷ ss) c origin nid = passed_others ss (passed s address bits n c) origin nid
-
-pub applied_others : (policy : Policy) (address bits : ℕ → ℕ) (n : ℕ) (c : Columns) (origin nid : List ℕ)
-    → applied policy address bits n (with_others c origin nid) ≡ with_others (applied policy address bits n c) origin nid
-applied_others policy address bits n c origin nid = passed_others address bits n policy (altered n (λ q. unruled) c) origin nid
+-- then the passes
+pub applied_in : {prefixes rows : ℕ} {t u : Tables} {owner xs : List ℕ} (policy : Policy) → Lent prefixes rows t → Owned t.routes prefixes owner → rows ≡ length owner
+    → xs ≡ entries rows (λ q. usual) t.rows.preference
+    → u ≡ with_rows t (passed_all policy (of_row t.address owner) (of_row t.bits owner) (length owner)
+    (columns t.rows.router t.rows.asn xs t.rows.path t.rows.origin t.rows.mark t.rows.med t.rows.nid t.rows.peer))
+    → u ≡ with_rows t (applied policy (prefix_field t.address t.routes prefixes) (prefix_field t.bits t.routes prefixes) rows t.rows)
+applied_in {rows = rows} {t = t} {owner = owner} policy l o long set e =
+    e ∙ ap (with_rows t)
+    (ap₂ (λ (n : ℕ) (c : Columns). passed_all policy (of_row t.address owner) (of_row t.bits owner) n c) (sym long) (usual_altered rows t.rows set) ∙ owners_applied policy l o)

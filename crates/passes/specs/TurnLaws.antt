@@ -1,96 +1,140 @@
 -- One turn of the loops over rows and over sessions.
-use Rattle.std.specs.Prelude.{ℕ, ◌+◌, ◌≤◌, ◌<◌, ◌≡◌, refl, Bool, true, false, not, cond, ◌&&◌, List, [], ◌∷◌, length, set, eqb}
-use Rattle.std.proofs.Common.{zero-le, arith, sym, ap, ap₂, ◌∙◌}
-use Rattle.std.proofs.lemmas.Bool.{not-true, not-false}
+use Rattle.std.specs.Prelude.{ℕ, ◌+◌, ◌≤◌, ◌<◌, ◌≡◌, refl, Bool, true, false, cond, ◌&&◌, List, [], ◌∷◌, length, eqb}
+use Rattle.std.proofs.Common.{zero-le, arith, sym, ap, ap₂, ◌∙◌, subst}
 use Rattle.model.specs.Rows.{column}
 use Rattle.model.specs.Decision.{Route}
-use Rattle.snapshot.specs.Tables.{Columns}
+use Rattle.snapshot.specs.Tables.{Columns, Tables}
 use Rattle.tables.specs.Judging.{route_at}
 use Rattle.policy.specs.Policy.{Clause, Session}
-use Rattle.policy.specs.Rewriting.{preferred, by_session}
+use Rattle.policy.specs.Rewriting.{with_rows}
 use Rattle.policy.specs.Passing.{pass}
 use Rattle.policy.proofs.PassingLaws.{pass_as}
 use Rattle.clauses.specs.declared.Named.{Named}
-use Rattle.clauses.specs.Walking.{Wide, session_of, session_by, is_session, named_at, behind_clauses, sessions_from}
-use Rattle.clauses.specs.WalkingLaws.{no_session, sessions_step}
-use Rattle.passes.specs.Passes.{seen, of_row, passed, passed_all, Long}
-use Rattle.passes.specs.PassesLaws.{Along, along_skip, along_next, mark_ahead, med_ahead, long_has}
+use Rattle.clauses.specs.Walking.{session_of, session_by, is_session, named_at, behind_clauses, sessions_from}
+use Rattle.clauses.specs.WalkingLaws.{sessions_step}
+use Rattle.passes.specs.declared.RewriteTables.{RewriteTables}
+use Rattle.passes.specs.Passes.{KeepsRewrite, of_row, altered, ruled_row, passed, passed_all, Long}
+use Rattle.passes.specs.PassesLaws.{altered_none, altered_skip, altered_next, long_has, long_again, long_less}
+
+-- ---- what is lent stays the same
+
+pub keeps : {a : RewriteTables} → KeepsRewrite a a
+keeps = record {
+  ids = refl;
+  distances = refl;
+  address = refl;
+  bits = refl;
+  routes = refl;
+  router = refl;
+  asn = refl;
+  path = refl;
+  origin = refl;
+  nid = refl;
+  peer = refl;
+  preference = refl;
+  mark = refl;
+  med = refl;
+}
+
+pub keeps_on : {a b c : RewriteTables} → KeepsRewrite a b → KeepsRewrite b c → KeepsRewrite a c
+keeps_on k l = record {
+  ids = l.ids ∙ k.ids;
+  distances = l.distances ∙ k.distances;
+  address = l.address ∙ k.address;
+  bits = l.bits ∙ k.bits;
+  routes = l.routes ∙ k.routes;
+  router = l.router ∙ k.router;
+  asn = l.asn ∙ k.asn;
+  path = l.path ∙ k.path;
+  origin = l.origin ∙ k.origin;
+  nid = l.nid ∙ k.nid;
+  peer = l.peer ∙ k.peer;
+  preference = l.preference ∙ k.preference;
+  mark = l.mark ∙ k.mark;
+  med = l.med ∙ k.med;
+}
 
 -- ---- a row
 
-module _ (cs : List Clause) (s : Named) (rows : ℕ) (owner address bits router asn preference₀ path mark₀ med₀ peer : List ℕ) where
-  abbrev c : Columns
-  c = seen router asn preference₀ path mark₀ med₀ peer
-
+module _ (cs : List Clause) (s : Named) (owner : List ℕ) (t : Tables) where
   abbrev f : ℕ → Route → Route
-  f q = pass (session_of s cs) (of_row address owner q) (of_row bits owner q)
+  f q = pass (session_of s cs) (of_row t.address owner q) (of_row t.bits owner q)
 
   abbrev Here : ℕ → Bool
-  Here q = eqb s.router (column router q) && eqb s.peer (column peer q)
+  Here q = eqb s.router (column t.rows.router q) && eqb s.peer (column t.rows.peer q)
 
-  module _ (long : Long rows c) {q : ℕ} {preference mark med : List ℕ} (a : Along f rows c q preference mark med) (l : q < rows) {heard : Bool} (is : heard ≡ Here q) where
+  -- the session went along q rows
+  abbrev pub Along : ℕ → Tables → Type 0
+  Along q u = u ≡ with_rows t (altered q f t.rows)
+
+  pub along : Along 0 t
+  along = sym (ap (with_rows t) (altered_none f t.rows))
+
+  module _ (q : ℕ) {u : Tables} (a : Along q u) where
+    -- the next is a row of the columns
+    pub along_long : Long (length owner) t.rows → q < length owner → Long (q + 1) u.rows
+    along_long long l = subst (λ (w : Tables). Long (q + 1) w.rows) (sym a) (long_again q f t.rows (long_less (omega arith) long))
+
     -- it was not heard on the session
-    pub row_skip : not heard ≡ true → Along f rows c (q + 1) preference mark med
-    row_skip n = along_skip f rows c (long_has long) a l (pass_as (session_of s cs) (of_row address owner q) (of_row bits owner q) (route_at c q) false (sym is ∙ not-true heard n))
+    pub along_skip : Here q ≡ false → Along (q + 1) u
+    along_skip away =
+        a ∙ ap (with_rows t) (altered_skip f t.rows q (pass_as (session_of s cs) (of_row t.address owner q) (of_row t.bits owner q) (route_at t.rows q) false away))
 
-    -- it was
-    pub row_next : not heard ≡ false → {preference' mark' med' : List ℕ}
-        → (preference' ≡ set preference q (preferred cs (of_row address owner q) (of_row bits owner q) (column path q) (column asn q)))
-        × (mark' ≡ set mark q (cond s.zero 1 (column mark q)))
-        × (med' ≡ set med q (cond s.zero 0 (column med q)))
-        → Along f rows c (q + 1) preference' mark' med'
-    row_next n (e1, e2, e3) =
-        let whole : f q (route_at c q) ≡ by_session (session_of s cs) (of_row address owner q) (of_row bits owner q) (route_at c q) =
-        pass_as (session_of s cs) (of_row address owner q) (of_row bits owner q) (route_at c q) true (sym is ∙ not-false heard n) in
-        let next = along_next f rows c (long_has long) a
-        {p = preferred cs (of_row address owner q) (of_row bits owner q) (column path q) (column asn q)}
-        {m = cond s.zero 1 (column mark q)} {d = cond s.zero 0 (column med q)} l
-        (sym (ap (λ (r : Route). r.preference) whole))
-        (ap (cond s.zero 1) (mark_ahead f rows c (long_has long) a) ∙ sym (ap (λ (r : Route). r.mark) whole))
-        (ap (cond s.zero 0) (med_ahead f rows c (long_has long) a) ∙ sym (ap (λ (r : Route). r.med) whole)) in
-        rw (e1, e2, e3) next
+    -- it was, and is rewritten
+    pub along_next : Long (length owner) t.rows → q < length owner → Here q ≡ true → {v : Tables} {p : ℕ} → p ≡ column owner q
+        → v ≡ with_rows u (ruled_row cs s.zero (column u.address p) (column u.bits p) q u.rows) → Along (q + 1) v
+    along_next long l here {v} {p} is e =
+        let has = long_has long in
+        let h = pass_as (session_of s cs) (of_row t.address owner q) (of_row t.bits owner q) (route_at t.rows q) true here in
+        e ∙ ap₂ (λ (w : Tables) (k : ℕ). with_rows w (ruled_row cs s.zero (column w.address k) (column w.bits k) q w.rows)) a is
+        ∙ ap (with_rows t) (altered_next f t.rows (record { preference = omega (arith, has.preference); mark = omega (arith, has.mark); med = omega (arith, has.med) })
+        (session_of s cs) (of_row t.address owner q) (of_row t.bits owner q) h)
 
 -- ---- a session
 
--- tables as long as these have rows for as many clauses, and for fewer
-pub wide_again : {n m : ℕ} {kind key long gives kind' key' long' gives' : List ℕ} → Wide n kind key long gives → m ≤ n
-    → length kind' ≡ length kind → length key' ≡ length key → length long' ≡ length long → length gives' ≡ length gives → Wide m kind' key' long' gives'
-wide_again w l e1 e2 e3 e4 = record {
-  kinds = omega (arith, w.kinds);
-  keys = omega (arith, w.keys);
-  longs = omega (arith, w.longs);
-  given = omega (arith, w.given);
-}
-
 -- the sessions from a place on are left to pass
-pub record Left (bs : List ℕ) (address bits : ℕ → ℕ) (rows : ℕ) (c₀ : Columns) (at : ℕ) (c : Columns) : Type 0 where
+pub record Left (bs owner : List ℕ) (t : Tables) (at : ℕ) (u : Tables) : Type 0 where
   pub within : at ≤ length bs
-  pub same : passed_all (sessions_from bs at) address bits rows c ≡ passed_all (sessions_from bs 0) address bits rows c₀
+  pub same : passed_all (sessions_from bs at) (of_row t.address owner) (of_row t.bits owner) (length owner) u.rows
+      ≡ passed_all (sessions_from bs 0) (of_row t.address owner) (of_row t.bits owner) (length owner) t.rows
+  pub others : u ≡ with_rows t u.rows
+  pub long : Long (length owner) u.rows
 
-module _ {bs : List ℕ} {address bits : ℕ → ℕ} {rows : ℕ} {c₀ : Columns} where
-  pub left : Left bs address bits rows c₀ 0 c₀
-  left = record { within = zero-le; same = refl }
+-- the passes of some sessions
+abbrev passed_by : List ℕ → Tables → List Session → Columns → Columns
+passed_by owner t ss c = passed_all ss (of_row t.address owner) (of_row t.bits owner) (length owner) c
 
-  module _ {at : ℕ} {c : Columns} (l : Left bs address bits rows c₀ at c) where
-    -- one more passes
-    pub left_next : is_session bs at ≡ true → {s : Named} {next : ℕ} {c' : Columns} → s ≡ named_at bs at → (next ≡ behind_clauses bs s.first) × (next ≤ length bs)
-        → c' ≡ passed (session_by bs s) address bits rows c → Left bs address bits rows c₀ next c'
-    left_next e {s} {next} {c'} is (to, inside) p = record {
-      within = inside;
-      same =
-          let first : behind_clauses bs (named_at bs at).first ≡ next = ap (λ (n : Named). behind_clauses bs n.first) (sym is) ∙ sym to in
-          let after : passed (session_by bs (named_at bs at)) address bits rows c ≡ c' = ap (λ (n : Named). passed (session_by bs n) address bits rows c) (sym is) ∙ sym p in
-          sym
-          (ap (λ (ss : List Session). passed_all ss address bits rows c) (sessions_step bs at ∙ ap (λ (b : Bool). cond b (session_by bs (named_at bs at) ∷ sessions_from bs (behind_clauses bs (named_at bs at).first)) []) e)
-          ∙ ap₂ (λ (x : ℕ) (y : Columns). passed_all (sessions_from bs x) address bits rows y) first after)
-          ∙ l.same;
-    }
+module _ {bs owner : List ℕ} {t : Tables} where
+  pub left : Long (length owner) t.rows → Left bs owner t 0 t
+  left long = record { within = zero-le; same = refl; others = refl; long = long }
 
-    -- no session stands there
-    pub left_stop : is_session bs at ≡ false → c ≡ passed_all (sessions_from bs 0) address bits rows c₀
-    left_stop e =
-        sym (ap (λ (ss : List Session). passed_all ss address bits rows c) (sessions_step bs at ∙ ap (λ (b : Bool). cond b (session_by bs (named_at bs at) ∷ sessions_from bs (behind_clauses bs (named_at bs at).first)) []) e))
+  module _ {at : ℕ} {u : Tables} (l : Left bs owner t at u) where
+    -- the sessions from the place on, by whether one stands there
+    left_as : {b : Bool} → is_session bs at ≡ b
+        → passed_by owner t (cond b (session_by bs (named_at bs at) ∷ sessions_from bs (behind_clauses bs (named_at bs at).first)) []) u.rows ≡ passed_by owner t (sessions_from bs 0) t.rows
+    left_as e =
+        sym (ap (λ (ss : List Session). passed_by owner t ss u.rows)
+        (sessions_step bs at ∙ ap (λ (b : Bool). cond b (session_by bs (named_at bs at) ∷ sessions_from bs (behind_clauses bs (named_at bs at).first)) []) e))
         ∙ l.same
 
-    pub left_end : length bs ≤ at → c ≡ passed_all (sessions_from bs 0) address bits rows c₀
-    left_end h = left_stop (no_session bs at h)
+    -- one more passes
+    pub left_next : (is_session bs at ≡ true) → {s : Named} {next : ℕ} {v : Tables} → s ≡ named_at bs at → (next ≡ behind_clauses bs s.first) × (next ≤ length bs)
+        → v ≡ with_rows u (passed (session_by bs s) (of_row u.address owner) (of_row u.bits owner) (length owner) u.rows) → Left bs owner t next v
+    left_next e {s} {next} {v} is (to, inside) p =
+        let rows : Columns = passed (session_by bs s) (of_row t.address owner) (of_row t.bits owner) (length owner) u.rows in
+        let made : v ≡ with_rows t rows =
+        p ∙ ap (λ (w : Tables). with_rows w (passed (session_by bs s) (of_row w.address owner) (of_row w.bits owner) (length owner) u.rows)) l.others in
+        let made_rows : v.rows ≡ rows = ap (λ (w : Tables). w.rows) made in
+        record {
+          within = inside;
+          same =
+              ap₂ (λ (k : ℕ) (c : Columns). passed_by owner t (sessions_from bs k) c) (to ∙ ap (λ (n : Named). behind_clauses bs n.first) is)
+              (made_rows ∙ ap (λ (n : Named). passed (session_by bs n) (of_row t.address owner) (of_row t.bits owner) (length owner) u.rows) is)
+              ∙ left_as e;
+          others = made ∙ ap (with_rows t) (sym made_rows);
+          long = subst (Long (length owner)) (sym made_rows) (long_again (length owner) (λ q. pass (session_by bs s) (of_row t.address owner q) (of_row t.bits owner q)) u.rows l.long);
+        }
+
+    -- no session stands there
+    pub left_stop : is_session bs at ≡ false → u ≡ with_rows t (passed_by owner t (sessions_from bs 0) t.rows)
+    left_stop e = l.others ∙ ap (with_rows t) (left_as e)

@@ -2,15 +2,16 @@
 // rows once and rewrites those that were heard on it.
 #![tactic(auto)]
 
-ghost use Rattle.std.specs.Prelude.{◌≡◌, cond, ◌&&◌, ◌≤◌, ◌<◌, eqb, length, set};
+ghost use Rattle.std.specs.Prelude.{◌≡◌, ◌+◌, ◌≤◌, ◌<◌, length, map};
 ghost use Rattle.model.specs.Rows.{column, start};
 ghost use Rattle.snapshot.specs.Limits.{most_prefixes, most_routes};
-ghost use Rattle.policy.specs.Policy.{most_clauses};
-ghost use Rattle.policy.specs.Rewriting.{usual, preferred};
-ghost use Rattle.clauses.specs.Walking.{apart, Wide, session_of, sessions_from};
-ghost use Rattle.passes.specs.Passes.{seen, entries, Owned, Marked, of_row, prefix_field, passed, passed_all, applied, Long, Told, Lent};
+ghost use Rattle.snapshot.specs.Lent.{tables_of, lent_tables};
+ghost use Rattle.policy.specs.Rewriting.{usual, with_rows};
+ghost use Rattle.clauses.specs.Walking.{clause_of, session_of, session_by, sessions_from};
+ghost use Rattle.passes.specs.Passes.{rewrite_columns, rewrite_tables, KeepsRewrite, entries, Owned, of_row, prefix_field, ruled_row, passed, passed_all, applied, Long, Told, Lent};
 
-use clauses::Named;
+use clauses::{Announced, Clause, Named, Scope};
+use snapshot::{Columns, LentTables, Tables};
 
 // The most routes that tables hold.
 const MOST_ROWS: usize = snapshot::MOST_ROUTES as usize;
@@ -18,31 +19,109 @@ const MOST_ROWS: usize = snapshot::MOST_ROUTES as usize;
 // The most clauses of a session.
 const MOST_CLAUSES: usize = policy::MOST_CLAUSES as usize;
 
-// Marks the rows from one to another with the number of their prefix.
-fn mark_rows(p: usize, row: usize, end: usize, owner: &mut [u16])
-    requires { (p < most_prefixes) × (row ≤ end) × (end ≤ length owner.old) }
-    ensures { Marked p row end owner.old owner.new }
-{
-    let mut q = row;
-    while q < end {
-        owner[q] = p as u16;
-        q += 1;
+// What stands where no clause was taken apart.
+const NO_CLAUSE: Clause = Clause {
+    scope: Scope::All,
+    preference: policy::USUAL,
+};
+
+// The tables of a snapshot, whose preferences, marks and MEDs are lent to be rewritten.
+#[derive(Drop)]
+pub struct RewriteTables<'a> {
+    pub ids: &'a [u32],
+    pub distances: &'a [u32],
+    pub address: &'a [u32],
+    pub bits: &'a [u32],
+    pub routes: &'a [u32],
+    pub router: &'a [u32],
+    pub asn: &'a [u32],
+    pub preference: &'a mut [u32],
+    pub path: &'a [u32],
+    pub origin: &'a [u32],
+    pub mark: &'a mut [u32],
+    pub med: &'a mut [u32],
+    pub nid: &'a [u32],
+    pub peer: &'a [u32],
+}
+
+impl<'a> RewriteTables<'a> {
+    // The same tables, to be read.
+    pub fn view(&self) -> Tables<'_>
+        ensures { tables_of result ≡ rewrite_tables self.now }
+    {
+        Tables {
+            ids: self.ids,
+            distances: self.distances,
+            address: self.address,
+            bits: self.bits,
+            routes: self.routes,
+            rows: Columns {
+                router: self.router,
+                asn: self.asn,
+                preference: &*self.preference,
+                path: self.path,
+                origin: self.origin,
+                mark: &*self.mark,
+                med: &*self.med,
+                nid: self.nid,
+                peer: self.peer,
+            },
+        }
+    }
+}
+
+// Tables that were lent to be filled are lent on to be rewritten.
+impl<'a> From<LentTables<'a>> for RewriteTables<'a> {
+    ghost from_gives = { λ lent tables. rewrite_tables tables ≡ lent_tables lent };
+
+    fn from(lent: LentTables<'a>) -> RewriteTables<'a> {
+        let LentTables {
+            ids,
+            distances,
+            address,
+            bits,
+            routes,
+            router,
+            asn,
+            preference,
+            path,
+            origin,
+            mark,
+            med,
+            nid,
+            peer,
+        } = lent;
+        RewriteTables {
+            ids,
+            distances,
+            address,
+            bits,
+            routes,
+            router,
+            asn,
+            preference,
+            path,
+            origin,
+            mark,
+            med,
+            nid,
+            peer,
+        }
     }
 }
 
 // Marks the rows of so many prefixes, each with the number of its prefix.
 fn mark_owners(prefixes: usize, routes: &[u32], owner: &mut [u16])
-    requires { (prefixes ≤ most_prefixes) × (most_prefixes ≤ length routes.now) × (start routes.now prefixes ≤ length owner.old) }
-    ensures { Owned routes.now prefixes owner.new × (length owner.new ≡ length owner.old) }
+    requires few { prefixes ≤ most_prefixes }
+    requires counted { prefixes ≤ length routes.now }
+    requires room { start routes.now prefixes ≤ length owner.old }
+    ensures { Owned routes.now prefixes owner.new }
 {
     let mut row = 0;
-    let mut p = 0;
-    while p < prefixes {
-        let next = p + 1;
-        let end = row + routes[p] as usize;
-        mark_rows(p, row, end, owner);
+    for (p, count) in routes[..prefixes].iter().enumerate() {
+        let end = row + *count as usize;
+        owner[row..end].fill(p as u16);
         row = end;
-        p = next;
     }
 }
 
@@ -51,238 +130,89 @@ fn set_usual(rows: usize, preference: &mut [u32])
     requires { rows ≤ length preference.old }
     ensures { preference.new ≡ entries rows (λ q. usual) preference.old }
 {
-    let mut q = 0;
-    while q < rows {
-        preference[q] = policy::USUAL;
-        q += 1;
+    preference[..rows].fill(policy::USUAL);
+}
+
+// Rewrites the route in a row, of the prefix p, by a session's clauses, and by whether MED is set to 0 on it.
+fn rule(clauses: &[Clause], zero: bool, p: usize, q: usize, tables: &mut RewriteTables<'_>)
+    requires prefix { p < length tables.old.address.now × (p < length tables.old.bits.now) }
+    requires row { Long (q + 1) (rewrite_columns tables.old) }
+    ensures rewritten { rewrite_tables tables.new
+        ≡ with_rows (rewrite_tables tables.old) (ruled_row (map clause_of clauses.now) zero (column tables.old.address.now p) (column tables.old.bits.now p) q (rewrite_columns tables.old)) }
+    ensures kept { KeepsRewrite tables.old tables.new }
+{
+    let route = Announced {
+        address: tables.address[p],
+        bits: tables.bits[p],
+        path: tables.path[q],
+        neighbour: tables.asn[q],
+    };
+    tables.preference[q] = clauses::preferred(clauses, &route);
+    if zero {
+        tables.mark[q] = 1;
+        tables.med[q] = 0;
     }
 }
 
-// One of two numbers.
-fn pick(first: bool, a: u32, b: u32) -> u32
-    ensures { result ≡ cond first a b }
+// One session goes along the rows: those that were heard on it are rewritten. `owner` has the number of each row's prefix. Inlined, its loop
+// is slower by half: it would share the registers with all tables.
+#[inline(never)]
+fn pass(clauses: &[Clause], s: &Named, owner: &[u16], tables: &mut RewriteTables<'_>)
+    requires told { Told owner.now (rewrite_tables tables.old) }
+    requires long { Long (length owner.now) (rewrite_columns tables.old) }
+    ensures rewritten { rewrite_tables tables.new
+        ≡ with_rows (rewrite_tables tables.old) (passed (session_of s.now (map clause_of clauses.now)) (of_row tables.old.address.now owner.now) (of_row tables.old.bits.now owner.now) (length owner.now) (rewrite_columns tables.old)) }
+    ensures kept { KeepsRewrite tables.old tables.new }
 {
-    if first { a } else { b }
-}
-
-// Whether the route in a row was heard on a session.
-fn heard(s: Named, router: &[u32], peer: &[u32], q: usize) -> bool
-    requires { (q < length router.now) × (q < length peer.now) }
-    ensures { result ≡ (eqb s.router (column router.now q) && eqb s.peer (column peer.now q)) }
-{
-    (s.router == router[q]) & (s.peer == peer[q])
-}
-
-// Sets the MED of the route in a row to 0, as one that is present, if that is asked.
-fn clear(zero: bool, q: usize, mark: &mut [u32], med: &mut [u32])
-    requires { (q < length mark.old) × (q < length med.old) }
-    ensures { (mark.new ≡ set mark.old q (cond zero 1 (column mark.old q))) × (med.new ≡ set med.old q (cond zero 0 (column med.old q))) }
-{
-    mark[q] = pick(zero, 1, mark[q]);
-    med[q] = pick(zero, 0, med[q]);
-}
-
-// What a session makes of the route in a row, of a prefix. Its clauses are in the first rows of four tables.
-fn rule(
-    kind: &[u32],
-    key: &[u32],
-    long: &[u32],
-    gives: &[u32],
-    count: usize,
-    zero: bool,
-    q: usize,
-    address: u32,
-    bits: u32,
-    asn: &[u32],
-    preference: &mut [u32],
-    path: &[u32],
-    mark: &mut [u32],
-    med: &mut [u32],
-)
-    requires { Wide count kind.now key.now long.now gives.now × (q < length asn.now) × (q < length preference.old) × (q < length path.now) × (q < length mark.old) × (q < length med.old) }
-    ensures { (preference.new ≡ set preference.old q (preferred (apart kind.now key.now long.now gives.now count) address bits (column path.now q) (column asn.now q)))
-        × (mark.new ≡ set mark.old q (cond zero 1 (column mark.old q)))
-        × (med.new ≡ set med.old q (cond zero 0 (column med.old q))) }
-{
-    let hops = path[q];
-    let from = asn[q];
-    preference[q] = clauses::preferred(kind, key, long, gives, count, address, bits, hops, from);
-    clear(zero, q, mark, med);
-}
-
-// One session goes along the rows: those that were heard on it are rewritten. Its clauses are in the first rows of four tables, so that
-// no route has to look into the file. `owner` has the number of each row's prefix.
-fn pass(
-    kind: &[u32],
-    key: &[u32],
-    long: &[u32],
-    gives: &[u32],
-    count: usize,
-    s: Named,
-    rows: usize,
-    owner: &[u16],
-    address: &[u32],
-    bits: &[u32],
-    router: &[u32],
-    asn: &[u32],
-    preference: &mut [u32],
-    path: &[u32],
-    mark: &mut [u32],
-    med: &mut [u32],
-    peer: &[u32],
-)
-    requires { Wide count kind.now key.now long.now gives.now × Told rows owner.now address.now bits.now
-        × Long rows (seen router.now asn.now preference.old path.now mark.old med.old peer.now) }
-    ensures { seen router.now asn.now preference.new path.now mark.new med.new peer.now
-        ≡ passed (session_of s (apart kind.now key.now long.now gives.now count)) (of_row address.now owner.now) (of_row bits.now owner.now) rows
-        (seen router.now asn.now preference.old path.now mark.old med.old peer.now) }
-{
-    let mut q = 0;
-    while q < rows {
-        let next = q + 1;
-        if !heard(s, router, peer, q) {
-            q = next;
-            continue;
+    let router = tables.router;
+    let peer = tables.peer;
+    for (q, p) in owner.iter().enumerate() {
+        if (s.router == router[q]) & (s.peer == peer[q]) {
+            rule(clauses, s.zero, *p as usize, q, tables);
         }
-        let p = owner[q] as usize;
-        rule(
-            kind, key, long, gives, count, s.zero, q, address[p], bits[p], asn, preference, path,
-            mark, med,
-        );
-        q = next;
     }
 }
 
-// Each session of a policy goes along the rows once, in order, where four tables are lent for its clauses.
-fn pass_in(
-    policy: &[u8],
-    rows: usize,
-    owner: &[u16],
-    address: &[u32],
-    bits: &[u32],
-    router: &[u32],
-    asn: &[u32],
-    preference: &mut [u32],
-    path: &[u32],
-    mark: &mut [u32],
-    med: &mut [u32],
-    peer: &[u32],
-    kind: &mut [u32],
-    key: &mut [u32],
-    long: &mut [u32],
-    gives: &mut [u32],
-)
-    requires { Wide most_clauses kind.old key.old long.old gives.old × Told rows owner.now address.now bits.now × Long rows (seen router.now asn.now preference.old path.now mark.old med.old peer.now) }
-    ensures { seen router.now asn.now preference.new path.now mark.new med.new peer.now
-        ≡ passed_all (sessions_from policy.now 0) (of_row address.now owner.now) (of_row bits.now owner.now) rows
-        (seen router.now asn.now preference.old path.now mark.old med.old peer.now) }
+// A session's clauses are taken apart, and it goes along the rows.
+fn pass_session(policy: &[u8], s: &Named, owner: &[u16], tables: &mut RewriteTables<'_>)
+    requires inside { s.now.first ≤ length policy.now }
+    requires told { Told owner.now (rewrite_tables tables.old) }
+    requires long { Long (length owner.now) (rewrite_columns tables.old) }
+    ensures rewritten { rewrite_tables tables.new
+        ≡ with_rows (rewrite_tables tables.old) (passed (session_by policy.now s.now) (of_row tables.old.address.now owner.now) (of_row tables.old.bits.now owner.now) (length owner.now) (rewrite_columns tables.old)) }
+    ensures kept { KeepsRewrite tables.old tables.new }
 {
-    let mut at = 0;
-    while at < policy.len() {
-        if !clauses::is_session(policy, at) {
-            return;
-        }
-        let s = clauses::session_at(policy, at);
-        at = clauses::behind_clauses(policy, s.first);
-        let count = clauses::take_apart(policy, s.first, kind, key, long, gives);
-        pass(
-            kind, key, long, gives, count, s, rows, owner, address, bits, router, asn, preference,
-            path, mark, med, peer,
-        );
-    }
-}
-
-fn no_clauses() -> [u32; MOST_CLAUSES] {
-    [0u32; MOST_CLAUSES]
+    let mut clauses = [NO_CLAUSE; MOST_CLAUSES];
+    let count = clauses::take_apart(policy, s.first, &mut clauses);
+    pass(&clauses[..count], s, owner, tables);
 }
 
 // Each session of a policy goes along the rows once, in order.
-fn pass_all(
-    policy: &[u8],
-    rows: usize,
-    owner: &[u16],
-    address: &[u32],
-    bits: &[u32],
-    router: &[u32],
-    asn: &[u32],
-    preference: &mut [u32],
-    path: &[u32],
-    mark: &mut [u32],
-    med: &mut [u32],
-    peer: &[u32],
-)
-    requires { Told rows owner.now address.now bits.now × Long rows (seen router.now asn.now preference.old path.now mark.old med.old peer.now) }
-    ensures { seen router.now asn.now preference.new path.now mark.new med.new peer.now
-        ≡ passed_all (sessions_from policy.now 0) (of_row address.now owner.now) (of_row bits.now owner.now) rows
-        (seen router.now asn.now preference.old path.now mark.old med.old peer.now) }
+fn pass_all(policy: &[u8], owner: &[u16], tables: &mut RewriteTables<'_>)
+    requires told { Told owner.now (rewrite_tables tables.old) }
+    requires long { Long (length owner.now) (rewrite_columns tables.old) }
+    ensures rewritten { rewrite_tables tables.new
+        ≡ with_rows (rewrite_tables tables.old) (passed_all (sessions_from policy.now 0) (of_row tables.old.address.now owner.now) (of_row tables.old.bits.now owner.now) (length owner.now) (rewrite_columns tables.old)) }
+    ensures kept { KeepsRewrite tables.old tables.new }
 {
-    let mut kind = no_clauses();
-    let mut key = no_clauses();
-    let mut long = no_clauses();
-    let mut gives = no_clauses();
-    pass_in(
-        policy, rows, owner, address, bits, router, asn, preference, path, mark, med, peer,
-        &mut kind, &mut key, &mut long, &mut gives,
-    );
-}
-
-fn no_owners() -> [u16; MOST_ROWS] {
-    [0u16; MOST_ROWS]
-}
-
-// The policy applied to so many prefixes with so many routes, where `owner` is lent for the number of each row's prefix.
-fn apply_in(
-    policy: &[u8],
-    prefixes: usize,
-    rows: usize,
-    address: &[u32],
-    bits: &[u32],
-    routes: &[u32],
-    router: &[u32],
-    asn: &[u32],
-    preference: &mut [u32],
-    path: &[u32],
-    mark: &mut [u32],
-    med: &mut [u32],
-    peer: &[u32],
-    owner: &mut [u16],
-)
-    requires { Lent prefixes rows address.now bits.now routes.now (seen router.now asn.now preference.old path.now mark.old med.old peer.now) × (rows ≤ length owner.old) }
-    ensures { seen router.now asn.now preference.new path.now mark.new med.new peer.now
-        ≡ applied (sessions_from policy.now 0) (prefix_field address.now routes.now prefixes) (prefix_field bits.now routes.now prefixes) rows
-        (seen router.now asn.now preference.old path.now mark.old med.old peer.now) }
-{
-    mark_owners(prefixes, routes, owner);
-    set_usual(rows, preference);
-    pass_all(
-        policy, rows, owner, address, bits, router, asn, preference, path, mark, med, peer,
-    );
+    let mut at = 0;
+    while let Some(s) = clauses::session_at(policy, at) {
+        at = clauses::behind_clauses(policy, s.first);
+        pass_session(policy, &s, owner, tables);
+    }
 }
 
 // Applies a policy to the routes of so many prefixes: every preference is set to 100, then its sessions pass.
-pub fn apply(
-    policy: &[u8],
-    prefixes: usize,
-    rows: usize,
-    address: &[u32],
-    bits: &[u32],
-    routes: &[u32],
-    router: &[u32],
-    asn: &[u32],
-    preference: &mut [u32],
-    path: &[u32],
-    mark: &mut [u32],
-    med: &mut [u32],
-    peer: &[u32],
-)
-    requires { Lent prefixes rows address.now bits.now routes.now (seen router.now asn.now preference.old path.now mark.old med.old peer.now) × (rows ≤ most_routes) }
-    ensures { seen router.now asn.now preference.new path.now mark.new med.new peer.now
-        ≡ applied (sessions_from policy.now 0) (prefix_field address.now routes.now prefixes) (prefix_field bits.now routes.now prefixes) rows
-        (seen router.now asn.now preference.old path.now mark.old med.old peer.now) }
+pub fn apply(policy: &[u8], prefixes: usize, rows: usize, tables: &mut RewriteTables<'_>)
+    requires lent { Lent prefixes rows (rewrite_tables tables.old) }
+    requires few { rows ≤ most_routes }
+    ensures rewritten { rewrite_tables tables.new
+        ≡ with_rows (rewrite_tables tables.old) (applied (sessions_from policy.now 0) (prefix_field tables.old.address.now tables.old.routes.now prefixes) (prefix_field tables.old.bits.now tables.old.routes.now prefixes) rows (rewrite_columns tables.old)) }
+    ensures kept { KeepsRewrite tables.old tables.new }
 {
-    let mut owner = no_owners();
-    apply_in(
-        policy, prefixes, rows, address, bits, routes, router, asn, preference, path, mark, med,
-        peer, &mut owner,
-    );
+    let mut marks = [0u16; MOST_ROWS];
+    let owner = &mut marks[..rows];
+    mark_owners(prefixes, tables.routes, owner);
+    set_usual(rows, tables.preference);
+    pass_all(policy, owner, tables);
 }

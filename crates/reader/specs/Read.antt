@@ -12,7 +12,7 @@ abbrev pub left : Answer → Tables → Tables
 left (accepted s) t = filled s t
 left (refused r at) t = t
 
--- the answer in document 01's numbers: ROOM first, where a table is shorter than its limit; then the snapshot's counts, or a refusal and its place
+-- the answer in numbers: ROOM first, where a table is shorter than its limit; then the snapshot's counts, or a refusal and its place
 unfoldable pub read_answer : List ℕ → Tables → Said
 read_answer bs t = cond (any_of (short t)) (refuses Room 0) (said_of (reading bs))
 

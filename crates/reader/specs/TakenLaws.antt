@@ -1,8 +1,9 @@
 -- What is accepted stands in the tables; and bytes are refused in one way only.
-use Rattle.std.specs.Prelude.{ℕ, ◌≡◌, false, List, T}
+use Rattle.std.specs.Prelude.{ℕ, ◌≡◌, false, List, T, Result, Ok}
 use Rattle.std.proofs.Common.{sym, ap, ◌∙◌, subst, subst₂}
 use Rattle.std.proofs.Math.Pow.{are_bytes}
 use Rattle.refusal.specs.declared.Refusal.{Refusal}
+use Rattle.refusal.specs.declared.Refused.{Refused}
 use Rattle.refusal.specs.declared.Refusal.TheVariants as refusal
 use Rattle.refusal.proofs.NumbersLaws.{gives_refuses}
 use Rattle.model.proofs.RowLaws.{by}
@@ -15,8 +16,6 @@ use Rattle.snapshot.specs.Tables.{Tables, short, Held, Room}
 use Rattle.snapshot.proofs.TablesLaws.{has_room}
 use Rattle.tables.specs.Judging.{Holding}
 use Rattle.tables.specs.FilledLaws.{filled_held, filled_room}
-use Rattle.scan.specs.declared.Read.{Read}
-use Rattle.scan.specs.declared.Read.TheVariants as read
 use Rattle.scan.specs.Scan.{said}
 use Rattle.reader.specs.Read.{read_answer, read_tables}
 use Rattle.reader.specs.ReadLaws.{no_room, was_accepted, tables_left}
@@ -29,11 +28,11 @@ pub record Taken (bs : List ℕ) (c : Counts) (u : Tables) : Type 0 where
 
 module _ (bs : List ℕ) (t : Tables) where
   -- accepted only where each table has room
-  room_accepted : {r : Read} {c : Counts} → r ≡ read.Accepted c → said r ≡ read_answer bs t → any_of (short t) ≡ false
+  room_accepted : {r : Result Counts Refused} {c : Counts} → r ≡ Ok c → said r ≡ read_answer bs t → any_of (short t) ≡ false
   room_accepted told e =
       by (any_of (short t)) (λ short. absurd (gives_refuses refusal.Room 0 _ (sym (ap said told) ∙ e ∙ sym (no_room bs t short).0))) (λ enough. enough)
 
-  pub taken : {r : Read} {c : Counts} {u : Tables} → T (are_bytes bs) → r ≡ read.Accepted c → said r ≡ read_answer bs t → u ≡ read_tables bs t → Taken bs c u
+  pub taken : {r : Result Counts Refused} {c : Counts} {u : Tables} → T (are_bytes bs) → r ≡ Ok c → said r ≡ read_answer bs t → u ≡ read_tables bs t → Taken bs c u
   taken bytes told e f =
       let enough = room_accepted told e in
       let (s, is, counts) = was_accepted bs t enough told e in

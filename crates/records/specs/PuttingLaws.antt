@@ -9,7 +9,7 @@ use Rattle.model.specs.Decision.{Route}
 use Rattle.snapshot.specs.Records.{Form, four_byte, route_form_by, route_forms, size, spread, written, written_in}
 use Rattle.snapshot.proofs.RecordsLaws.{of_routes}
 use Rattle.snapshot.specs.Format.{route_fields}
-use Rattle.records.specs.Putting.{front_form, front_bytes, middle_bytes, back_bytes, Space, Puts}
+use Rattle.records.specs.Putting.{front_form, front_bytes, rest_bytes, Space, Puts}
 
 pub sets_append : (d : List ℕ) (at : ℕ) (xs ys : List ℕ) → sets d at (xs ++ ys) ≡ sets (sets d at xs) (at + length xs) ys
 sets_append d at [] ys = ap (λ (k : ℕ). sets d k ys) (let e : at ≡ at + 0 = omega arith in e)
@@ -122,54 +122,34 @@ module _ {before : List ℕ} {at : ℕ} (xs ys : List ℕ) (space : Space (xs ++
 
 -- ---- the parts of a route
 
-parts_by : (four : Bool) (r : Route)
-    → written (route_form_by four) (route_fields r)
-    ≡ written (front_form four) (r.router ∷ r.asn ∷ []) ++ (middle_bytes r.preference r.path r.origin r.mark ++ back_bytes r.med r.nid r.peer)
+parts_by : (four : Bool) (r : Route) → written (route_form_by four) (route_fields r) ≡ written (front_form four) (r.router ∷ r.asn ∷ []) ++ rest_bytes r
 parts_by true r = refl
 parts_by false r = refl
 
 module _ (r : Route) where
-  -- its parts
-  abbrev pub front : List ℕ
-  front = front_bytes r.router r.asn
-
-  abbrev pub middle : List ℕ
-  middle = middle_bytes r.preference r.path r.origin r.mark
-
-  abbrev pub back : List ℕ
-  back = back_bytes r.med r.nid r.peer
-
-  pub route_space : {out : List ℕ} {at : ℕ} → Space (written_in route_forms (route_fields r)) out at → Space (front ++ (middle ++ back)) out at
-  route_space {out} {at} space = subst (λ (bs : List ℕ). Space bs out at) (parts_by (four_byte r.asn) r) space
-
-  pub route_put : {before one two after : List ℕ} {at m k next : ℕ} → Puts front before at one m → Puts middle one m two k → Puts back two k after next
-      → Puts (written_in route_forms (route_fields r)) before at after next
-  route_put {before} {after} {at} {next} p q s =
-      subst (λ (bs : List ℕ). Puts bs before at after next) (sym (parts_by (four_byte r.asn) r)) (puts_append {xs = front} p (puts_append {xs = middle} {ys = back} q s))
-
-module _ (router asn : ℕ) where
-  front_long : (four : Bool) → four ≡ four_byte asn → length (front_bytes router asn) ≡ size (front_form four)
-  front_long four e = ap (λ (b : Bool). length (written (front_form b) (router ∷ asn ∷ []))) (sym e) ∙ by_form four
+  front_long : (four : Bool) → four ≡ four_byte r.asn → length (front_bytes r) ≡ size (front_form four)
+  front_long four e = ap (λ (b : Bool). length (written (front_form b) (r.router ∷ r.asn ∷ []))) (sym e) ∙ by_form four
     where
-      by_form : (four : Bool) → length (written (front_form four) (router ∷ asn ∷ [])) ≡ size (front_form four)
+      by_form : (four : Bool) → length (written (front_form four) (r.router ∷ r.asn ∷ [])) ≡ size (front_form four)
       by_form true = refl
       by_form false = refl
 
-  module _ {d : List ℕ} {at : ℕ} where
-    -- there is room for the AS
-    pub front_room : (four : Bool) → four ≡ four_byte asn → Space (front_bytes router asn) d at → at + size (front_form four) ≤ length d
-    front_room four e space = let long = front_long four e in let l = space.fits in omega arith
+module _ (r : Route) {d : List ℕ} {at : ℕ} where
+  -- behind the front the rest is put
+  pub route_put : {mid after : List ℕ} {m : ℕ} → Puts (front_bytes r) d at mid m → after ≡ sets mid m (rest_bytes r) → Puts (written_in route_forms (route_fields r)) d at after (m + 20)
+  route_put {after} {m} p e =
+      subst (λ (bs : List ℕ). Puts bs d at after (m + 20)) (sym (parts_by (four_byte r.asn) r)) (puts_append {xs = front_bytes r} p (record { same = e; place = refl }))
 
-    -- kind, router and AS, one after the other
-    pub front_put : (four : Bool) {kind next : ℕ} {one two three : List ℕ} → four ≡ four_byte asn → kind ≡ (route_form_by four).kind → one ≡ sets d at (bytes_of 1 kind)
-        → two ≡ sets one (at + 1) (bytes_of 1 router) → three ≡ sets two (at + 2) (bytes_of (cond four 4 2) asn) → next ≡ at + size (front_form four)
-        → Puts (front_bytes router asn) d at three next
-    front_put four e k f g h n =
-        let long = front_long four e in
-        let one_byte : bytes_of 1 (route_form_by four).kind ≡ (route_form_by four).kind ∷ [] = of_routes (λ f. bytes_of 1 f.kind ≡ f.kind ∷ []) refl refl four in
-        record {
-          same = then_put (at + 2) (cond four 4 2) asn (then_put (at + 1) 1 router (f ∙ ap (λ (k : ℕ). sets d at (bytes_of 1 k)) k) g) h
-              ∙ record_put (front_form four) (router ∷ asn ∷ []) d at one_byte
-              ∙ ap (λ (b : Bool). sets d at (written (front_form b) (router ∷ asn ∷ []))) e;
-          place = omega arith;
-        }
+  -- kind, router and AS, one after the other
+  pub front_put : (four : Bool) {kind next : ℕ} {one two three : List ℕ} → four ≡ four_byte r.asn → kind ≡ (route_form_by four).kind → one ≡ sets d at (bytes_of 1 kind)
+      → two ≡ sets one (at + 1) (bytes_of 1 r.router) → three ≡ sets two (at + 2) (bytes_of (cond four 4 2) r.asn) → next ≡ at + size (front_form four)
+      → Puts (front_bytes r) d at three next
+  front_put four e k f g h n =
+      let long = front_long r four e in
+      let one_byte : bytes_of 1 (route_form_by four).kind ≡ (route_form_by four).kind ∷ [] = of_routes (λ f. bytes_of 1 f.kind ≡ f.kind ∷ []) refl refl four in
+      record {
+        same = then_put (at + 2) (cond four 4 2) r.asn (then_put (at + 1) 1 r.router (f ∙ ap (λ (k : ℕ). sets d at (bytes_of 1 k)) k) g) h
+            ∙ record_put (front_form four) (r.router ∷ r.asn ∷ []) d at one_byte
+            ∙ ap (λ (b : Bool). sets d at (written (front_form b) (r.router ∷ r.asn ∷ []))) e;
+        place = omega arith;
+      }

@@ -1,9 +1,10 @@
 -- A number tells its refusal: no two refusals share one, and each lies in 1 to 12. So an answer in numbers tells what it is.
-use Rattle.std.specs.Prelude.{ℕ, ◌≤◌, ◌≡◌, refl, List, [], ◌∷◌, get_or}
+use Rattle.std.specs.Prelude.{ℕ, ◌≤◌, ◌≡◌, refl, List, [], ◌∷◌, get_or, Result, Ok, Err}
 use Rattle.std.proofs.Common.{arith, sym, ap, ap₂, ◌∙◌, lit≤}
 use Rattle.refusal.specs.declared.Refusal.{Refusal}
+use Rattle.refusal.specs.declared.Refused.{Refused}
 use Rattle.refusal.specs.declared.Refusal.TheVariants.{Room, Cut, Kind, Place, Field, Order, Twin, Full, Count, Tail, Table, NoPrefix}
-use Rattle.refusal.specs.Numbers.{number_of, Said, refuses, gives}
+use Rattle.refusal.specs.Numbers.{number_of, Said, refuses, gives, said_by}
 
 -- the refusals in the order of their numbers, from 1
 abbrev in_order : List Refusal
@@ -57,3 +58,11 @@ same_refusal make a b at place e = let (r, p) = refuses_tells a b at place e in 
 -- and nothing that is given is one
 pub gives_refuses : (a : Refusal) (at : ℕ) (values : List ℕ) → gives values ≡ refuses a at → ⊥
 gives_refuses a at values e = let n = ap (λ (s : Said). s.number) e in omega (arith, n, (number_range a).0)
+
+-- an answer in numbers tells the answer, where the numbers of what is given tell that
+pub answer_tells : {A : Type 0} (numbers : A → List ℕ) → ((a b : A) → gives (numbers a) ≡ gives (numbers b) → a ≡ b)
+    → (x y : Result A Refused) → said_by (λ a. gives (numbers a)) x ≡ said_by (λ a. gives (numbers a)) y → x ≡ y
+answer_tells numbers tells (Ok a) (Ok b) e = ap Ok (tells a b e)
+answer_tells numbers tells (Ok a) (Err q) e = absurd (gives_refuses q.refusal q.place (numbers a) e)
+answer_tells numbers tells (Err r) (Ok b) e = absurd (gives_refuses r.refusal r.place (numbers b) (sym e))
+answer_tells numbers tells (Err r) (Err q) e = same_refusal (λ f at. Err (record { refusal = f; place = at })) r.refusal q.refusal r.place q.place e

@@ -1,6 +1,7 @@
 -- Numbers for a no: the table of refusals, each with its number; and what a call answers, in these numbers.
-use Rattle.std.specs.Prelude.{ℕ, List, [], ◌∷◌}
+use Rattle.std.specs.Prelude.{ℕ, List, [], ◌∷◌, Result, Ok, Err}
 use Rattle.refusal.specs.declared.Refusal.{Refusal}
+use Rattle.refusal.specs.declared.Refused.{Refused}
 use Rattle.refusal.specs.declared.Refusal.TheVariants.{Room, Cut, Kind, Place, Field, Order, Twin, Full, Count, Tail, Table, NoPrefix}
 
 -- the number of each refusal; 13 to 20 are free for the refusals of later requests
@@ -30,3 +31,8 @@ refuses r at = record { number = number_of r; values = at ∷ [] }
 -- no refusal, and these values
 abbrev pub gives : List ℕ → Said
 gives values = record { number = 0; values = values }
+
+-- what a call says that gives a value or refuses, where `giving` says what a value is
+abbrev pub said_by : {A : Type 0} → (A → Said) → Result A Refused → Said
+said_by giving (Ok a) = giving a
+said_by giving (Err e) = refuses e.refusal e.place

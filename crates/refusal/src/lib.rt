@@ -7,38 +7,33 @@
 ghost use Rattle.std.specs.Prelude.{◌≡◌};
 ghost use Rattle.refusal.specs.Numbers.{number_of};
 
-#[derive(Clone, Copy)]
+// Each case has the number that stands for it wherever a refusal is printed or returned.
+#[derive(Clone, Copy, Debug, PartialEq, Eq)]
 pub enum Refusal {
-    Room,
-    Cut,
-    Kind,
-    Place,
-    Field,
-    Order,
-    Twin,
-    Full,
-    Count,
-    Tail,
-    Table,
-    NoPrefix,
+    Room = 1,
+    Cut = 2,
+    Kind = 3,
+    Place = 4,
+    Field = 5,
+    Order = 6,
+    Twin = 7,
+    Full = 8,
+    Count = 9,
+    Tail = 10,
+    Table = 11,
+    NoPrefix = 12,
+}
+
+// A refusal with its place: the error of every call that can refuse.
+#[derive(Clone, Copy, Debug, PartialEq, Eq)]
+pub struct Refused {
+    pub refusal: Refusal,
+    pub place: usize,
 }
 
 // The number that stands for a refusal wherever one is printed or returned.
 pub fn number(refusal: Refusal) -> u32
     ensures { result ≡ number_of refusal }
 {
-    match refusal {
-        Refusal::Room => 1,
-        Refusal::Cut => 2,
-        Refusal::Kind => 3,
-        Refusal::Place => 4,
-        Refusal::Field => 5,
-        Refusal::Order => 6,
-        Refusal::Twin => 7,
-        Refusal::Full => 8,
-        Refusal::Count => 9,
-        Refusal::Tail => 10,
-        Refusal::Table => 11,
-        Refusal::NoPrefix => 12,
-    }
+    refusal as u32
 }

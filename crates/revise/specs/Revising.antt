@@ -1,21 +1,16 @@
 -- What a policy makes of a snapshot's bytes: what the call answers, and what it leaves in the output.
-use Rattle.std.specs.Prelude.{ℕ, ◌+◌, ◌≤◌, ◌≡◌, cond, List, [], ◌∷◌, length, T, ltb}
+use Rattle.std.specs.Prelude.{ℕ, ◌+◌, ◌≡◌, cond, List, [], ◌∷◌, length, ltb, Result, Ok, Err}
 use Rattle.std.proofs.lemmas.List.Edits.{sets}
 use Rattle.refusal.specs.declared.Refusal.{Refusal}
 use Rattle.refusal.specs.declared.Refusal.TheVariants.{Room}
 use Rattle.refusal.specs.Numbers.{Said, number_of, gives}
-use Rattle.snapshot.specs.declared.Counts.{Counts}
-use Rattle.snapshot.specs.Ranges.{none}
-use Rattle.snapshot.specs.Format.{Snapshot, encode, Valid}
+use Rattle.snapshot.specs.Format.{encode}
 use Rattle.snapshot.specs.Reading.{Answer, AnswerOf, accepted, refused, reading}
-use Rattle.snapshot.specs.Tables.{Tables, short, Held}
-use Rattle.scan.specs.declared.Read.{Read}
-use Rattle.scan.specs.declared.Read.TheVariants as read
 use Rattle.policy.specs.Policy.{Policy}
 use Rattle.policy.specs.Reading as policies
 use Rattle.policy.specs.Rewriting.{rewritten}
-use Rattle.revise.specs.declared.Revised.{Revised}
-use Rattle.revise.specs.declared.Revised.TheVariants.{Rewritten, SnapshotRefused, PolicyRefused}
+use Rattle.revise.specs.declared.RevisionError.{RevisionError}
+use Rattle.revise.specs.declared.RevisionError.TheVariants as of
 
 -- what is added to the number of a refusal, by what was refused
 abbrev pub of_snapshot : ℕ
@@ -26,13 +21,13 @@ of_policy = 200
 
 -- a refusal of one of them, with its place
 abbrev pub refuses : ℕ → Refusal → ℕ → Said
-refuses of r at = record { number = of + number_of r; values = at ∷ [] }
+refuses which r at = record { number = which + number_of r; values = at ∷ [] }
 
 -- an answer of the code, in numbers: 0; 100 plus the number of the snapshot's refusal, 200 plus that of the policy's
-abbrev pub said : Revised → Said
-said Rewritten = gives []
-said (SnapshotRefused r at) = refuses of_snapshot r at
-said (PolicyRefused r at) = refuses of_policy r at
+abbrev pub said : Result (Unit {0}) RevisionError → Said
+said (Ok _) = gives []
+said (Err (of.Snapshot e)) = refuses of_snapshot e.refusal e.place
+said (Err (of.Policy e)) = refuses of_policy e.refusal e.place
 
 -- the answer to what reading the snapshot and reading the policy answer: the snapshot's refusal comes first
 abbrev pub answer_to : Answer → AnswerOf Policy → Said
@@ -57,13 +52,3 @@ revised_out snapshot policy out = cond (ltb (length out) (length snapshot)) out 
 -- the answer and the output are those of what reading the snapshot and reading the policy answer
 abbrev pub Revises : Answer → AnswerOf Policy → List ℕ → Said → List ℕ → Type 0
 Revises a p out answer after = (answer ≡ answer_to a p) × (after ≡ left_by a p out)
-
--- so they are where counts and tables hold the snapshot, and the output has room for its bytes
-abbrev pub Rewrites : Counts → Tables → List ℕ → List ℕ → Said → List ℕ → Type 0
-Rewrites counts t policy out answer after =
-    (s : Snapshot) → T (none (short t)) → Valid s → Held counts t s → length (encode s) ≤ length out → Revises (accepted s) (policies.reading policy) out answer after
-
--- and where the tables are what reading the snapshot left, with this answer
-pub data AfterRead (t : Tables) (policy out : List ℕ) : Read → Said → List ℕ → Type 0 where
-  unread : (r : Refusal) (at : ℕ) → AfterRead t policy out (read.Refused r at) (refuses of_snapshot r at) out
-  held : (counts : Counts) {answer : Said} {after : List ℕ} → Rewrites counts t policy out answer after → AfterRead t policy out (read.Accepted counts) answer after

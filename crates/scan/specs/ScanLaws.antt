@@ -1,14 +1,15 @@
 -- How the first pass goes on: one law for each turn of its loops and each way out of them.
 use Prim.Native.Nat.{ℕ, suc, ◌+◌, ◌-◌, ◌≤◌, ◌<◌, zero-le}
-use Rattle.std.proofs.Common.{add-one, sym, ◌∙◌, length-drop, leb→le, ne_eqb, lt-ltb, le-ltb}
+use Rattle.std.proofs.Common.{add-one, sym, ◌∙◌, length-drop, leb→le, lt-ltb, le-ltb}
 use Rattle.std.proofs.Math.Decide.{dec_le}
 use native.Mathlib.Omega.{arith}
-use Rattle.std.specs.Prelude.{◌≡◌, refl, ◌≢◌, Bool, true, false, cond, not, ◌&&◌, get_or, drop, T, leb, eqb}
+use Rattle.std.specs.Prelude.{◌≡◌, refl, ◌≢◌, Bool, cond, not, get_or, drop, T, leb, eqb, Result, Ok, Err}
 use Rattle.std.proofs.Math.Path.{ap, subst}
 use mathlib.Core.List.{List, [], ◌∷◌, ◌++◌}
 use Rattle.std.proofs.Math.ListN.{length}
 use Rattle.std.proofs.Math.Dec.{ltb→lt}
-use Rattle.refusal.specs.declared.Refusal.{Refusal}
+use Rattle.std.proofs.lemmas.Bool.Decides.{nat_tests}
+use Rattle.refusal.specs.declared.Refused.{Refused}
 use Rattle.refusal.specs.declared.Refusal.TheVariants.{Tail}
 use Rattle.refusal.specs.Numbers.{Said, refuses, gives}
 use Rattle.refusal.proofs.NumbersLaws.{same_refusal, gives_refuses}
@@ -23,26 +24,17 @@ use Rattle.snapshot.specs.Format.{Snapshot, Prefix, Pair, pairs, row, rows, reco
 use Rattle.snapshot.specs.Reading.{Answer, accepted, refused, unless, prefix_extra, prefix_values, prefix_record, route_extra, route_values, route_record, end_record, open_routes, add_route, with_prefixes, prefix_of, route_of, tail, items, distance_record, distances, router_record, routers, count_record, reading}
 use Rattle.snapshot.proofs.ChecksLaws.{judged_cases, passed, length_snoc, latest_snoc, routes_in_append, routes_in_add, length_add, some_prefix}
 use Rattle.snapshot.proofs.PlaceLaws.{kind_at, reading_count, routers_one, routers_none, distances_one, distances_none, items_one_prefix, items_one_route, items_last, tail_none, tail_some}
-use Rattle.snapshot.proofs.PairsLaws.{due_row, due_equal, due_other, due_row_end, due_end}
+use Rattle.snapshot.proofs.PairsLaws.{due_other}
 use Rattle.cursor.specs.declared.Cursor.{Cursor}
 use Rattle.cursor.specs.declared.Network.{Network}
 use Rattle.cursor.specs.declared.Sofar.{Sofar}
-use Rattle.cursor.specs.declared.Step.{Step}
-use Rattle.cursor.specs.declared.Step.TheVariants as step
-use Rattle.cursor.specs.declared.PrefixStep.{PrefixStep}
-use Rattle.cursor.specs.declared.PrefixStep.TheVariants as prefix_step
-use Rattle.cursor.specs.declared.RouteStep.{RouteStep}
-use Rattle.cursor.specs.declared.RouteStep.TheVariants as route_step
-use Rattle.cursor.specs.declared.EndStep.{EndStep}
-use Rattle.cursor.specs.declared.EndStep.TheVariants as end_step
-use Rattle.cursor.specs.Steps.{begin, after, due, id_at, router_place, ids_at, prefix_next, route_next, network_at, route_at, took, step_said, prefix_said, route_said, end_said, judged_at, ending, late_behind, Tells}
+use Rattle.cursor.specs.Steps.{refused_at, begin, after, due, id_at, router_place, ids_at, prefix_next, route_next, network_at, route_at, took, record_said, step_said, prefix_said, route_said, end_said, judged_at, ending, late_behind, Tells, nothing, more_prefix, more_route}
 use Rattle.cursor.specs.StepsLaws.{prefix_told, route_told, route_says}
 use Rattle.cursor.specs.Theorems.{step_tells, prefix_tells, route_tells, end_tells}
-use Rattle.scan.specs.declared.Read.{Read}
-use Rattle.scan.specs.declared.Read.TheVariants as read
 use Rattle.scan.specs.Theorems.{said_tells}
-use Rattle.scan.specs.Scan.{said, said_of, told, answered, Routers, Distances, Rows, Row, Items, nothing, more_prefix, more_route}
+use Rattle.scan.specs.Scan.{said, said_of, told, counts_so_far, answered, Routers, Distances, Row, Items}
 use Rattle.snapshot.proofs.ReturnsLaws.{open_last}
+use Rattle.snapshot.specs.declared.Counts.{Counts}
 
 -- ---- an answer and what it says
 
@@ -52,35 +44,40 @@ said_told (accepted s) = refl
 said_told (refused r at) = refl
 
 -- and it is the only one that does
-pub said_is : {r : Read} (bs : List ℕ) → said r ≡ said_of (reading bs) → r ≡ told (reading bs)
+pub said_is : {r : Result Counts Refused} (bs : List ℕ) → said r ≡ said_of (reading bs) → r ≡ told (reading bs)
 said_is {r} bs e = said_tells r (told (reading bs)) (e ∙ sym (said_told (reading bs)))
 
 -- a record's body lies within the input
 within_body : (bs : List ℕ) (at : ℕ) (k : ℕ) → T (leb (suc k) (length (drop at bs))) → at + suc k ≤ length bs
-within_body bs at k t =
-    let h : suc k ≤ length (drop at bs) = leb→le (suc k) (length (drop at bs)) t in
-    let l = length-drop at bs in
-    omega (arith, h, l)
+within_body bs at k t = omega (arith, leb→le (suc k) (length (drop at bs)) t, length-drop at bs)
 
--- ---- the steps of records that say one number
+-- ---- what the answer to a record says: of any type, where its numbers tell it
 
-abbrev step_of : List Check → ℕ → Cursor → ℕ → Said
-step_of checks at next v = judged_at at checks (took next (v ∷ []))
+module _ {A : Type 0} (says : A → List ℕ) (tells : (x y : Result (Cursor × A) Refused) → record_said says x ≡ record_said says y → x ≡ y)
+    (checks : List Check) (at : ℕ) (next : Cursor) (a : A) (go : Unit {0} → Answer) where
+  abbrev answer_of : Said
+  answer_of = judged_at at checks (took next (says a))
 
-module _ (checks : List Check) (at : ℕ) (next : Cursor) (v : ℕ) (go : Unit {0} → Answer) {x : Step} (e : step_said x ≡ step_of checks at next v) where
-  step_refused : {r : Refusal} {place : ℕ} → x ≡ step.Refused r place → unless checks at go ≡ refused r place
-  step_refused {r} {place} is =
-      judged_cases checks (λ f. refuses f at) (λ _. took next (v ∷ [])) (λ r. refused r at) go (step_said x) (sym e)
-      (λ f d g. g ∙ same_refusal refused f r at place (d ∙ ap step_said is))
-      (λ h d g. absurd (gives_refuses r place _ (d ∙ ap step_said is)))
+  -- its refusal is reading's
+  record_stop : {q : Refused} → record_said says (Err q) ≡ answer_of → unless checks at go ≡ refused q.refusal q.place
+  record_stop {q} e =
+      judged_cases checks (λ f. refuses f at) (λ _. took next (says a)) (λ r. refused r at) go (record_said says (Err q)) (sym e)
+      (λ f d g. g ∙ same_refusal refused f q.refusal at q.place d)
+      (λ h d g. absurd (gives_refuses q.refusal q.place _ d))
 
-  step_took : {c : Cursor} {w : ℕ} → x ≡ step.Took c w → Holds checks × (c ≡ next) × (w ≡ v) × (unless checks at go ≡ go tt)
-  step_took {c} {w} is =
-      judged_cases checks (λ f. refuses f at) (λ _. took next (v ∷ [])) (λ r. refused r at) go (step_said x) (sym e)
-      (λ f d g. absurd (gives_refuses f at _ (sym (d ∙ ap step_said is))))
+  -- and where it was taken its checks hold, the next cursor and the value are those of the record, and reading goes on
+  record_taken : {c : Cursor} {v : A} → record_said says (Ok (c, v)) ≡ answer_of → Holds checks × (c ≡ next) × (v ≡ a) × (unless checks at go ≡ go tt)
+  record_taken {c} {v} e =
+      judged_cases checks (λ f. refuses f at) (λ _. took next (says a)) (λ r. refused r at) go (record_said says (Ok (c, v))) (sym e)
+      (λ f d g. absurd (gives_refuses f at _ (sym d)))
       (λ h d g.
-      let same : step.Took c w ≡ step.Took next v = sym is ∙ step_tells x (step.Took next v) (sym d) in
-      (h, let a : c ≡ next = cc in a, let b : w ≡ v = cc in b, g))
+      let same = tells (Ok (c, v)) (Ok (next, a)) (sym d) in
+      let pair : ◌≡◌ {A = Cursor × A} (c, v) (next, a) = cc in
+      (h, ap (λ (t : Cursor × A). t.0) pair, ap (λ (t : Cursor × A). t.1) pair, g))
+
+-- the fields of a route, as an answer has them
+abbrev fields_of : Route → List ℕ
+fields_of r = r.router ∷ r.asn ∷ r.preference ∷ r.path ∷ r.origin ∷ r.mark ∷ r.med ∷ r.nid ∷ r.peer ∷ []
 
 -- ---- the number of routers
 
@@ -88,23 +85,27 @@ module _ (bs : List ℕ) where
   abbrev count_at : ℕ
   count_at = get_or (values_at count_form bs 0) 0 0
 
-  pub count_stop : {x : Step} {r : Refusal} {place : ℕ} → x ≡ step.Refused r place → step_said x ≡ step_of (count_record (drop 0 bs)) 0 (after begin count_form) count_at
-      → reading bs ≡ refused r place
-  count_stop is e = reading_count bs ∙ step_refused (count_record bs) 0 (after begin count_form) count_at _ e is
+  abbrev count_said : Cursor → Result (Cursor × ℕ) Refused → Type 0
+  count_said b x = step_said x ≡ judged_at b.at (count_record (drop b.at bs)) (took (after b count_form) (values_at count_form bs b.at))
 
-  pub count_next : {x : Step} {c : Cursor} {n : ℕ} → x ≡ step.Took c n → step_said x ≡ step_of (count_record (drop 0 bs)) 0 (after begin count_form) count_at
-      → Routers bs n c.at 0 c
-  unfolding count_record
-  count_next {c = c} {n = n} taken e =
-      let (h, at, is, go) = step_took (count_record bs) 0 (after begin count_form) count_at
-      (λ _. routers count_at count_at [] (size count_form) (drop (size count_form) bs)) e taken in
-      record {
-        within = zero-le;
-        place = omega arith;
-        same = rw (at, is) (reading_count bs ∙ go ∙ ap (λ (m : ℕ). routers count_at m [] (size count_form) (drop (size count_form) bs)) (let z : count_at ≡ count_at - 0 = omega arith in z));
-        records = rw at refl;
-        low = rw at (omega arith);
-      }
+  module _ {b : Cursor} (start : begin ≡ b) where
+    pub count_stop : {q : Refused} → count_said b (Err q) → reading bs ≡ refused q.refusal q.place
+    count_stop {q} e =
+        reading_count bs
+        ∙ record_stop (λ n. n ∷ []) step_tells (count_record bs) 0 (after begin count_form) count_at _ (subst (λ (b : Cursor). count_said b (Err q)) (sym start) e)
+
+    pub count_next : {c : Cursor} {n : ℕ} → count_said b (Ok (c, n)) → Routers bs n c.at 0 c
+    unfolding count_record
+    count_next {c} {n} e =
+        let (h, at, is, go) = record_taken (λ n. n ∷ []) step_tells (count_record bs) 0 (after begin count_form) count_at
+        (λ _. routers count_at count_at [] (size count_form) (drop (size count_form) bs)) (subst (λ (b : Cursor). count_said b (Ok (c, n))) (sym start) e) in
+        record {
+          within = zero-le;
+          place = omega arith;
+          same = rw (at, is) (reading_count bs ∙ go ∙ ap (λ (m : ℕ). routers count_at m [] (size count_form) (drop (size count_form) bs)) (let z : count_at ≡ count_at - 0 = omega arith in z));
+          records = rw at refl;
+          low = rw at (omega arith);
+        }
 
 -- ---- the routers
 
@@ -118,14 +119,16 @@ module _ {bs : List ℕ} {n first i : ℕ} {c : Cursor} (s : Routers bs n first 
       s.same ∙ ap (λ (m : ℕ). routers n m (ids_at bs first i) c.at (drop c.at bs)) (let z : n - i ≡ suc (n - suc i) = omega arith in z)
       ∙ routers_one bs c.at n (n - suc i) (ids_at bs first i)
 
-  pub routers_stop : {x : Step} {r : Refusal} {place : ℕ} → i < n → x ≡ step.Refused r place → step_said x ≡ step_of router_checks_at c.at (after c router_form) (id_at bs c.at) → reading bs ≡ refused r place
-  routers_stop l is e = routers_now l ∙ step_refused router_checks_at c.at (after c router_form) (id_at bs c.at) _ e is
+  abbrev router_said : Result (Cursor × ℕ) Refused → Type 0
+  router_said x = step_said x ≡ judged_at c.at router_checks_at (took (after c router_form) (id_at bs c.at ∷ []))
 
-  pub routers_next : {x : Step} {next : Cursor} {id : ℕ} → i < n → x ≡ step.Took next id → step_said x ≡ step_of router_checks_at c.at (after c router_form) (id_at bs c.at)
-      → Routers bs n first (i + 1) next
-  routers_next {next = next} l taken e =
-      let (h, at, is, go) = step_took router_checks_at c.at (after c router_form) (id_at bs c.at)
-      (λ _. routers n (n - suc i) (ids_at bs first i ++ (id_at bs c.at ∷ [])) (c.at + size router_form) (drop (c.at + size router_form) bs)) e taken in
+  pub routers_stop : {q : Refused} → i < n → router_said (Err q) → reading bs ≡ refused q.refusal q.place
+  routers_stop l e = routers_now l ∙ record_stop (λ n. n ∷ []) step_tells router_checks_at c.at (after c router_form) (id_at bs c.at) _ e
+
+  pub routers_next : {next : Cursor} {id : ℕ} → i < n → router_said (Ok (next, id)) → Routers bs n first (i + 1) next
+  routers_next {next} {id} l e =
+      let (h, at, is, go) = record_taken (λ n. n ∷ []) step_tells router_checks_at c.at (after c router_form) (id_at bs c.at)
+      (λ _. routers n (n - suc i) (ids_at bs first i ++ (id_at bs c.at ∷ [])) (c.at + size router_form) (drop (c.at + size router_form) bs)) e in
       let more : ids_at bs first (i + 1) ≡ ids_at bs first i ++ (id_at bs c.at ∷ []) =
       ap (ids_at bs first) (add-one i) ∙ table_snoc (λ k. id_at bs (router_place first k)) i ∙ ap (λ (k : ℕ). ids_at bs first i ++ (id_at bs k ∷ [])) (sym s.place) in
       let left : n - (i + 1) ≡ n - suc i = omega arith in
@@ -172,13 +175,16 @@ module _ {bs : List ℕ} {n : ℕ} {c : Cursor} (p : Pair) (more : List Pair) (s
       ∙ ap (λ (m : ℕ). unless (distance_record m p (drop c.at bs)) c.at λ _.
       distances more s.ids (s.ds ++ (distance_at ∷ [])) (c.at + size distance_form) (drop (c.at + size distance_form) bs)) s.long
 
-  distances_stop : {x : Step} {r : Refusal} {place : ℕ} → x ≡ step.Refused r place → step_said x ≡ step_of distance_checks_at c.at (after c distance_form) distance_at → reading bs ≡ refused r place
-  distances_stop is e = distances_now ∙ step_refused distance_checks_at c.at (after c distance_form) distance_at _ e is
+  abbrev distance_said : Result (Cursor × ℕ) Refused → Type 0
+  distance_said x = step_said x ≡ judged_at c.at distance_checks_at (took (after c distance_form) (distance_at ∷ []))
 
-  distances_next : {x : Step} {next : Cursor} {d : ℕ} → x ≡ step.Took next d → step_said x ≡ step_of distance_checks_at c.at (after c distance_form) distance_at → Distances bs n more next
-  distances_next taken e =
-      let (h, at, is, go) = step_took distance_checks_at c.at (after c distance_form) distance_at
-      (λ _. distances more s.ids (s.ds ++ (distance_at ∷ [])) (c.at + size distance_form) (drop (c.at + size distance_form) bs)) e taken in
+  distances_stop : {q : Refused} → distance_said (Err q) → reading bs ≡ refused q.refusal q.place
+  distances_stop e = distances_now ∙ record_stop (λ n. n ∷ []) step_tells distance_checks_at c.at (after c distance_form) distance_at _ e
+
+  distances_next : {next : Cursor} {d : ℕ} → distance_said (Ok (next, d)) → Distances bs n more next
+  distances_next {next} {d} e =
+      let (h, at, is, go) = record_taken (λ n. n ∷ []) step_tells distance_checks_at c.at (after c distance_form) distance_at
+      (λ _. distances more s.ids (s.ds ++ (distance_at ∷ [])) (c.at + size distance_form) (drop (c.at + size distance_form) bs)) e in
       let count : c.records ≡ 1 + n + length s.ds = s.records in
       let below : c.records ≤ c.at = s.low in
       let one = length_snoc s.ds distance_at in
@@ -195,74 +201,33 @@ module _ {bs : List ℕ} {n : ℕ} {c : Cursor} where
   due_is : {xs ys : List Pair} → xs ≡ ys → Distances bs n xs c → Distances bs n ys c
   due_is e s = subst (λ (l : List Pair). Distances bs n l c) e s
 
-  pub rows_start : Distances bs n (pairs n) c → Rows bs n 0 c
-  rows_start s = record { within = zero-le; left = due_is (ap (rows n 0) (let z : n ≡ n - 0 = omega arith in z)) s }
-
-  module _ {from : ℕ} (s : Rows bs n from c) where
-    pub rows_end : n ≤ from → Distances bs n [] c
-    rows_end m =
-        let l : from ≤ n = s.within in
-        let e : from ≡ n = omega arith in
-        due_is (ap (λ (f : ℕ). rows n f (n - f)) e ∙ due_end n) s.left
-
-    pub row_start : from < n → Row bs n from 0 c
-    row_start l = record {
-      known = l;
-      within = zero-le;
-      left = due_is (due_row n from l ∙ ap (λ (m : ℕ). row from 0 m ++ rows n (suc from) (n - suc from)) (let z : n ≡ n - 0 = omega arith in z)) s.left;
-    }
-
   module _ {from to : ℕ} (s : Row bs n from to c) where
     abbrev others : List Pair
     others = rows n (suc from) (n - suc from)
 
-    pub row_skip : to < n → from ≡ to → Row bs n from (to + 1) c
-    row_skip l e = record {
-      known = s.known;
-      within = omega arith;
-      left = due_is (ap (λ (l : List Pair). l ++ others) (due_equal n from to l e ∙ ap (λ (t : ℕ). row from t (n - t)) (sym (add-one to)))) s.left;
-    }
-
     row_due : to < n → (from ≡ to → ⊥) → Distances bs n (due from to ∷ (row from (suc to) (n - suc to) ++ others)) c
     row_due l e = due_is (ap (λ (l : List Pair). l ++ others) (due_other n from to l e)) s.left
 
-    pub row_stop : {x : Step} {r : Refusal} {place : ℕ} → to < n → (from ≡ to → ⊥) → x ≡ step.Refused r place
-        → step_said x ≡ step_of (distance_record n (due from to) (drop c.at bs)) c.at (after c distance_form) (get_or (values_at distance_form bs c.at) 2 0)
-        → reading bs ≡ refused r place
-    row_stop l e is d = distances_stop (due from to) (row from (suc to) (n - suc to) ++ others) (row_due l e) is d
+    abbrev due_said : Result (Cursor × ℕ) Refused → Type 0
+    due_said x = step_said x
+        ≡ judged_at c.at (distance_record n (due from to) (drop c.at bs)) (took (after c distance_form) (get_or (values_at distance_form bs c.at) 2 0 ∷ []))
 
-    pub row_next : {x : Step} {next : Cursor} {d : ℕ} → to < n → (from ≡ to → ⊥) → x ≡ step.Took next d
-        → step_said x ≡ step_of (distance_record n (due from to) (drop c.at bs)) c.at (after c distance_form) (get_or (values_at distance_form bs c.at) 2 0)
-        → Row bs n from (to + 1) next
-    row_next {next = next} l e is d = record {
+    pub row_stop : {q : Refused} → to < n → (from ≡ to → ⊥) → due_said (Err q) → reading bs ≡ refused q.refusal q.place
+    row_stop l e d = distances_stop (due from to) (row from (suc to) (n - suc to) ++ others) (row_due l e) d
+
+    pub row_next : {next : Cursor} {d : ℕ} → to < n → (from ≡ to → ⊥) → due_said (Ok (next, d)) → Row bs n from (to + 1) next
+    row_next {next} {d} l e is = record {
       known = s.known;
       within = omega arith;
       left = subst (λ (t : ℕ). Distances bs n (row from t (n - t) ++ others) next) (sym (add-one to))
-          (distances_next (due from to) (row from (suc to) (n - suc to) ++ others) (row_due l e) is d);
+          (distances_next (due from to) (row from (suc to) (n - suc to) ++ others) (row_due l e) is);
     }
-
-    pub row_end : n ≤ to → Rows bs n (from + 1) c
-    row_end m =
-        let l : to ≤ n = s.within in
-        let k : from < n = s.known in
-        let e : to ≡ n = omega arith in
-        record {
-          within = omega arith;
-          left = due_is
-              (ap (λ (t : ℕ). row from t (n - t) ++ others) e ∙ ap (λ (l : List Pair). l ++ others) (due_row_end n from)
-              ∙ ap (λ (f : ℕ). rows n f (n - f)) (sym (add-one from))) s.left;
-        }
 
 -- ---- what is known of the prefixes and routes read so far
 
-not_not : (b : Bool) → not (not b) ≡ b
-not_not true = refl
-not_not false = refl
-
 -- where there is one before, it is late where it does not rise
 late_some : (m a b x y : ℕ) → not (late_behind (m + 1) a b x y) ≡ rises a b x y
-late_some m a b x y =
-    ap (λ (z : Bool). not (not z && not (rises a b x y))) (ne_eqb (m + 1) 0 (let z : m + 1 ≡ 0 → ⊥ = λ e. omega arith in z)) ∙ not_not (rises a b x y)
+late_some m a b x y = grind (arith, nat_tests)
 
 open_add : (p : Prefix) (ps : List Prefix) (r : model.Route) → open_routes (add_route (p ∷ ps) r) ≡ open_routes (p ∷ ps) ++ (r ∷ [])
 open_add p [] r = refl
@@ -340,37 +305,27 @@ module _ {bs : List ℕ} {c : Cursor} {k : Sofar} (i : Items bs c k) where
 
   -- ---- a prefix
   module _ (is : get_or bs c.at 0 ≡ 4) where
-    abbrev prefix_step_of : Said
-    prefix_step_of = judged_at at (prefix_next k (drop at bs)) (took (after c prefix_form) (values_at prefix_form bs at))
+    abbrev prefixed : Snapshot
+    prefixed = with_prefixes i.s (i.s.prefixes ++ (prefix_of (values_at prefix_form bs at) ∷ []))
 
-    prefix_cases : {G : Type 0} (x : Said) → x ≡ prefix_step_of
-        → ((r : Refusal) → refuses r at ≡ x → reading bs ≡ refused r at → G)
-        → (Holds (prefix_record i.s (drop at bs)) → took (after c prefix_form) (values_at prefix_form bs at) ≡ x
-        → reading bs ≡ items (with_prefixes i.s (i.s.prefixes ++ (prefix_of (values_at prefix_form bs at) ∷ []))) (at + size prefix_form) (drop (at + size prefix_form) bs) → G)
-        → G
-    prefix_cases x e f g =
-        judged_cases (prefix_record i.s (drop at bs)) (λ f. refuses f at) (λ _. took (after c prefix_form) (values_at prefix_form bs at))
-        (λ r. refused r at) (λ _. items (with_prefixes i.s (i.s.prefixes ++ (prefix_of (values_at prefix_form bs at) ∷ []))) (at + size prefix_form) (drop (at + size prefix_form) bs))
-        x (ap (λ (l : List Check). judged_at at l (took (after c prefix_form) (values_at prefix_form bs at))) (prefix_told i.tells (drop at bs)) ∙ sym e)
-        (λ r d h. f r d (i.same ∙ items_one_prefix bs at i.s is ∙ h))
-        (λ p d h. g p d (i.same ∙ items_one_prefix bs at i.s is ∙ h))
+    abbrev prefix_is : Result (Cursor × Network) Refused → Type 0
+    prefix_is x = prefix_said x ≡ judged_at at (prefix_next k (drop at bs)) (took (after c prefix_form) (values_at prefix_form bs at))
 
-    pub prefix_stop : {x : PrefixStep} {r : Refusal} {place : ℕ} → x ≡ prefix_step.Refused r place → prefix_said x ≡ prefix_step_of → read.Refused r place ≡ told (reading bs)
-    prefix_stop {x} {r} {place} is e =
-        prefix_cases (prefix_said x) e
-        (λ f d h. same_refusal read.Refused r f place at (sym (d ∙ ap prefix_said is)) ∙ sym (ap told h))
-        (λ p d h. absurd (gives_refuses r place _ (d ∙ ap prefix_said is)))
+    prefix_read : (x : Result (Cursor × Network) Refused) → prefix_is x
+        → prefix_said x ≡ judged_at at (prefix_record i.s (drop at bs)) (took (after c prefix_form) (values_at prefix_form bs at))
+    prefix_read x e = e ∙ sym (ap (λ (l : List Check). judged_at at l (took (after c prefix_form) (values_at prefix_form bs at))) (prefix_told i.tells (drop at bs)))
 
-    pub prefix_next_lem : {x : PrefixStep} {next : Cursor} {p : Network} → x ≡ prefix_step.Took next p → prefix_said x ≡ prefix_step_of
+    pub prefix_stop : {q : Refused} → prefix_is (Err q) → reading bs ≡ refused q.refusal q.place
+    prefix_stop {q} e =
+        i.same ∙ items_one_prefix bs at i.s is
+        ∙ record_stop (λ p. p.address ∷ p.bits ∷ []) prefix_tells (prefix_record i.s (drop at bs)) at (after c prefix_form) (network_at bs at) _ (prefix_read (Err q) e)
+
+    pub prefix_next_lem : {next : Cursor} {p : Network} → prefix_is (Ok (next, p))
         → (k.prefixes < most_prefixes) × Items bs next (more_prefix k p) × (c.at < next.at) × (next.at ≤ length bs)
     unfolding prefix_record
-    prefix_next_lem {x} {next} {p} taken e =
-        prefix_cases (prefix_said x) e
-        (λ f d h. absurd (gives_refuses f at _ (sym (d ∙ ap prefix_said taken))))
-        (λ hold d h.
-        let same : prefix_step.Took (after c prefix_form) (network_at bs at) ≡ prefix_step.Took next p = prefix_tells (prefix_step.Took (after c prefix_form) (network_at bs at)) x d ∙ taken in
-        let to : after c prefix_form ≡ next = cc in
-        let is : network_at bs at ≡ p = cc in
+    prefix_next_lem {next} {p} e =
+        let (hold, to, its, h) = record_taken (λ p. p.address ∷ p.bits ∷ []) prefix_tells (prefix_record i.s (drop at bs)) at (after c prefix_form) (network_at bs at)
+        (λ _. items prefixed (at + size prefix_form) (drop (at + size prefix_form) bs)) (prefix_read (Ok (next, p)) e) in
         let q = passed forms (only prefix_form) (prefix_extra i.s) (prefix_values i.s) (drop at bs) hold in
         let few : length i.s.prefixes < most_prefixes = ltb→lt _ _ q.free.0 in
         let count : k.prefixes ≡ length i.s.prefixes = i.tells.prefixes in
@@ -381,18 +336,18 @@ module _ {bs : List ℕ} {c : Cursor} {k : Sofar} (i : Items bs c k) where
         let low : c.records ≤ c.at = i.low in
         let inside = within_body bs at _ q.whole in (
           omega arith,
-          subst (λ (c : Cursor). Items bs c (more_prefix k p)) to
-              (subst (λ (p : Network). Items bs (after c prefix_form) (more_prefix k p)) is
+          subst (λ (c : Cursor). Items bs c (more_prefix k p)) (sym to)
+              (subst (λ (p : Network). Items bs (after c prefix_form) (more_prefix k p)) (sym its)
               (record {
-                s = with_prefixes i.s (ps ++ (prefix_of (values_at prefix_form bs at) ∷ []));
-                same = h;
+                s = prefixed;
+                same = i.same ∙ items_one_prefix bs at i.s is ∙ h;
                 tells = tells_prefix i.tells (network_at bs at);
                 count = omega arith;
                 low = omega arith;
               })),
-          subst (λ (n : Cursor). c.at < n.at) to (omega arith),
-          subst (λ (n : Cursor). n.at ≤ length bs) to inside,
-        ))
+          subst (λ (n : Cursor). c.at < n.at) (sym to) (omega arith),
+          subst (λ (n : Cursor). n.at ≤ length bs) (sym to) inside,
+        )
 
   -- ---- a route
   module _ (is : T (stands route_forms (get_or bs c.at 0))) where
@@ -402,40 +357,30 @@ module _ {bs : List ℕ} {c : Cursor} {k : Sofar} (i : Items bs c k) where
     abbrev form : Form
     form = route_form_by four
 
-    abbrev route_step_of : Said
-    route_step_of = judged_at at (route_next k (drop at bs)) (took (after c form) (values_at form bs at))
-
     abbrev routed : Snapshot
     routed = with_prefixes i.s (add_route i.s.prefixes (route_of (values_at form bs at)))
 
-    route_cases : {G : Type 0} (x : Said) → x ≡ route_step_of
-        → ((r : Refusal) → refuses r at ≡ x → reading bs ≡ refused r at → G)
-        → (Holds (route_record i.s (drop at bs)) → took (after c form) (values_at form bs at) ≡ x
-        → reading bs ≡ items routed (at + size form) (drop (at + size form) bs) → G)
-        → G
-    route_cases x e f g =
-        judged_cases (route_record i.s (drop at bs)) (λ f. refuses f at) (λ _. took (after c form) (values_at form bs at))
-        (λ r. refused r at) (λ _. items routed (at + size form) (drop (at + size form) bs))
-        x (ap (λ (l : List Check). judged_at at l (took (after c form) (values_at form bs at))) (route_told i.tells (drop at bs)) ∙ sym e)
-        (λ r d h. f r d (i.same ∙ items_one_route bs at i.s is ∙ h))
-        (λ p d h. g p d (i.same ∙ items_one_route bs at i.s is ∙ h))
+    abbrev route_is_said : Result (Cursor × Route) Refused → Type 0
+    route_is_said x = route_said x ≡ judged_at at (route_next k (drop at bs)) (took (after c form) (values_at form bs at))
 
-    pub route_stop : {x : RouteStep} {r : Refusal} {place : ℕ} → x ≡ route_step.Refused r place → route_said x ≡ route_step_of → read.Refused r place ≡ told (reading bs)
-    route_stop {x} {r} {place} is e =
-        route_cases (route_said x) e
-        (λ f d h. same_refusal read.Refused r f place at (sym (d ∙ ap route_said is)) ∙ sym (ap told h))
-        (λ p d h. absurd (gives_refuses r place _ (d ∙ ap route_said is)))
+    route_read : (x : Result (Cursor × Route) Refused) → route_is_said x
+        → route_said x ≡ judged_at at (route_record i.s (drop at bs)) (route_said (Ok (after c form, route_at bs at four)))
+    route_read x e =
+        e
+        ∙ sym (ap (λ (l : List Check). judged_at at l (took (after c form) (values_at form bs at))) (route_told i.tells (drop at bs)))
+        ∙ sym (ap (judged_at at (route_record i.s (drop at bs))) (route_says (after c form) bs at four))
 
-    pub route_next_lem : {x : RouteStep} {next : Cursor} {r : Route} → x ≡ route_step.Took next r → route_said x ≡ route_step_of
+    pub route_stop : {q : Refused} → route_is_said (Err q) → reading bs ≡ refused q.refusal q.place
+    route_stop {q} e =
+        i.same ∙ items_one_route bs at i.s is
+        ∙ record_stop fields_of route_tells (route_record i.s (drop at bs)) at (after c form) (route_at bs at four) _ (route_read (Err q) e)
+
+    pub route_next_lem : {next : Cursor} {r : Route} → route_is_said (Ok (next, r))
         → (k.routes < most_routes) × (k.inside < most_in_prefix) × Items bs next (more_route k r) × (c.at < next.at) × (next.at ≤ length bs)
     unfolding route_record
-    route_next_lem {x} {next} {r} taken e =
-        route_cases (route_said x) e
-        (λ f d h. absurd (gives_refuses f at _ (sym (d ∙ ap route_said taken))))
-        (λ hold d h.
-        let same : route_step.Took (after c form) (route_at bs at four) ≡ route_step.Took next r = route_tells (route_step.Took (after c form) (route_at bs at four)) x (route_says (after c form) bs at four ∙ d) ∙ taken in
-        let to : after c form ≡ next = cc in
-        let is : route_at bs at four ≡ r = cc in
+    route_next_lem {next} {r} e =
+        let (hold, to, its, h) = record_taken fields_of route_tells (route_record i.s (drop at bs)) at (after c form) (route_at bs at four)
+        (λ _. items routed (at + size form) (drop (at + size form) bs)) (route_read (Ok (next, r)) e) in
         let q = passed forms route_forms (route_extra i.s) (route_values i.s) (drop at bs) hold in
         let ps = i.s.prefixes in
         let some = q.free.0 in
@@ -451,12 +396,18 @@ module _ {bs : List ℕ} {c : Cursor} {k : Sofar} (i : Items bs c k) where
         let body : at + size form ≤ length bs = subst (λ (k : ℕ). at + size (form_of route_forms k) ≤ length bs) (kind_at bs at) (within_body bs at _ q.whole) in (
           omega arith,
           omega arith,
-          subst (λ (c : Cursor). Items bs c (more_route k r)) to
-              (subst (λ (r : Route). Items bs (after c form) (more_route k r)) is
-              (record { s = routed; same = h; tells = tells_route i.tells (route_at bs at four) some; count = omega arith; low = omega arith })),
-          subst (λ (n : Cursor). c.at < n.at) to (omega arith),
-          subst (λ (n : Cursor). n.at ≤ length bs) to body,
-        ))
+          subst (λ (c : Cursor). Items bs c (more_route k r)) (sym to)
+              (subst (λ (r : Route). Items bs (after c form) (more_route k r)) (sym its)
+              (record {
+                s = routed;
+                same = i.same ∙ items_one_route bs at i.s is ∙ h;
+                tells = tells_route i.tells (route_at bs at four) some;
+                count = omega arith;
+                low = omega arith;
+              })),
+          subst (λ (n : Cursor). c.at < n.at) (sym to) (omega arith),
+          subst (λ (n : Cursor). n.at ≤ length bs) (sym to) body,
+        )
 
   -- ---- the end
   module _ (no4 : get_or bs c.at 0 ≢ 4) (other : T (not (stands route_forms (get_or bs c.at 0)))) where
@@ -468,26 +419,25 @@ module _ {bs : List ℕ} {c : Cursor} {k : Sofar} (i : Items bs c k) where
         i.same ∙ items_last bs at i.s no4 other
         ∙ ap (λ (n : ℕ). unless (end_record forms n (drop at bs)) at λ _. tail i.s (at + size end_form) (drop (at + size end_form) bs)) (sym i.count)
 
-    counts_told : answered k end_step.Ended ≡ told (accepted i.s)
+    counts_told : Ok (counts_so_far k) ≡ told (accepted i.s)
     counts_told =
         let a : k.routers ≡ length i.s.ids = i.tells.routers in
         let b : k.prefixes ≡ length i.s.prefixes = i.tells.prefixes in
         let d : k.routes ≡ routes_in i.s.prefixes = i.tells.routes in
         rw (a, b, d)
 
-    module _ {x y : EndStep} (is : x ≡ y) where
+    module _ (x : Result (Unit {0}) Refused) where
       tail_answer : Dec (at + 5 < length bs) → ending bs (at + 5) ≡ end_said x → answered k x ≡ told (tail i.s (at + 5) (drop (at + 5) bs))
       tail_answer (yes h) d =
-          ap (answered k) (end_tells x (end_step.Refused Tail (at + 5)) (sym d ∙ ap (λ (b : Bool). cond b (refuses Tail (at + 5)) (gives [])) (lt-ltb (at + 5) (length bs) h)))
+          ap (answered k) (end_tells x (Err (refused_at (at + 5) Tail)) (sym d ∙ ap (λ (b : Bool). cond b (refuses Tail (at + 5)) (gives [])) (lt-ltb (at + 5) (length bs) h)))
           ∙ sym (ap told (tail_some bs (at + 5) i.s h))
       tail_answer (no h) d =
-          ap (answered k) (end_tells x end_step.Ended (sym d ∙ ap (λ (b : Bool). cond b (refuses Tail (at + 5)) (gives [])) (le-ltb (at + 5) (length bs) (omega arith))))
+          ap (answered k) (end_tells x (Ok tt) (sym d ∙ ap (λ (b : Bool). cond b (refuses Tail (at + 5)) (gives [])) (le-ltb (at + 5) (length bs) (omega arith))))
           ∙ counts_told ∙ sym (ap told (tail_none bs (at + 5) i.s (omega arith)))
 
-      pub end_answer : end_said x ≡ end_step_of → answered k y ≡ told (reading bs)
+      pub end_answer : end_said x ≡ end_step_of → answered k x ≡ told (reading bs)
       end_answer e =
-          ap (answered k) (sym is)
-          ∙ judged_cases (end_record forms c.records (drop at bs)) (λ f. refuses f at) (λ _. ending bs (at + 5))
+          judged_cases (end_record forms c.records (drop at bs)) (λ f. refuses f at) (λ _. ending bs (at + 5))
           (λ r. refused r at) (λ _. tail i.s (at + size end_form) (drop (at + size end_form) bs)) (end_said x) (sym e)
-          (λ r d h. ap (answered k) (end_tells x (end_step.Refused r at) (sym d)) ∙ sym (ap told (last ∙ h)))
+          (λ r d h. ap (answered k) (end_tells x (Err (refused_at at r)) (sym d)) ∙ sym (ap told (last ∙ h)))
           (λ p d h. tail_answer (dec_le (suc (at + 5)) (length bs)) d ∙ sym (ap told (last ∙ h)))

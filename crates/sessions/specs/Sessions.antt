@@ -1,8 +1,9 @@
 -- What judging a policy file answers, how its code tests a record by its kind, and what it knows at each place.
-use Rattle.std.specs.Prelude.{ℕ, suc, ◌+◌, ◌≤◌, ◌<◌, ◌≡◌, ◌≢◌, Bool, true, false, cond, not, ◌&&◌, ◌||◌, List, [], ◌∷◌, length, drop, leb, eqb}
+use Rattle.std.specs.Prelude.{ℕ, suc, ◌+◌, ◌≤◌, ◌<◌, ◌≡◌, ◌≢◌, Bool, true, false, cond, not, ◌&&◌, ◌||◌, List, [], ◌∷◌, length, drop, leb, eqb, Option, Some, None, Result, Ok, Err}
 use Rattle.wire.specs.Numbers.{number_at}
 use Rattle.refusal.specs.declared.Refusal.TheVariants.{Field, Order}
-use Rattle.refusal.specs.Numbers.{Said, refuses, gives}
+use Rattle.refusal.specs.declared.Refused.{Refused}
+use Rattle.refusal.specs.Numbers.{Said, refuses, gives, said_by}
 use Rattle.snapshot.specs.Ranges.{none, prefix_tests, rises}
 use Rattle.snapshot.specs.Records.{sum, size, values_at}
 use Rattle.snapshot.specs.Format.{Check, ◌else◌, Holds}
@@ -12,16 +13,11 @@ use Rattle.cursor.specs.Steps.{finding, body_length}
 use Rattle.cursor.specs.StepsLaws.{extra_checks}
 use Rattle.policy.specs.Policy.{Policy, most_sessions, most_clauses, policy_forms, clause_asn_tests, records_in}
 use Rattle.policy.specs.Reading.{last, bare, Entry, entries, among, records_from, reading}
-use Rattle.sessions.specs.declared.Judged.{Judged}
-use Rattle.sessions.specs.declared.Judged.TheVariants as verdict
 use Rattle.sessions.specs.declared.Latest.{Latest}
-use Rattle.sessions.specs.declared.Item.{Item}
-use Rattle.sessions.specs.declared.Item.TheVariants.{Next, Over}
 
--- an answer of the code, in document 01's numbers
-abbrev pub said : Judged → Said
-said verdict.Accepted = gives []
-said (verdict.Refused r at) = refuses r at
+-- an answer of the code, in the project's numbers
+abbrev pub said : Result (Unit {0}) Refused → Said
+said = said_by (λ _. gives [])
 
 -- what reading answers, in the same numbers
 abbrev pub said_of : AnswerOf Policy → Said
@@ -51,6 +47,10 @@ faults_of kind k bs at =
     cond (eqb kind 1) (session_faults k (number_at 1 bs (at + 1)) (number_at 4 bs (at + 2)))
     (cond (eqb kind 2) ((none (prefix_tests (number_at 4 bs (at + 1)) (number_at 1 bs (at + 5))) else Field) ∷ [])
     (cond (eqb kind 3) ((none (clause_asn_tests (number_at 4 bs (at + 1))) else Field) ∷ []) []))
+
+-- what to know before the first record
+abbrev pub unread : Latest
+unread = record { sessions = 0; router = 0; peer = 0; bare = true; clauses = 0 }
 
 -- what to know with one more session
 abbrev pub more_session : Latest → ℕ → ℕ → Latest
@@ -95,9 +95,9 @@ pub record Agrees (i : Entry) : Type 0 where
   pub long : body_length policy_forms i.form.kind ≡ sum i.form.widths
   pub chosen : (its : Entry → AnswerOf Policy) (otherwise : Unit {0} → AnswerOf Policy) → among entries i.form.kind its otherwise ≡ its i
   pub room : {policy : Policy} {k : Latest} → Tells policy k
-      → finding (i.room policy) ≡ finding (extra_checks (astray_of i.form.kind k) (full_of i.form.kind k))
+      → (at : ℕ) → finding at (i.room policy) ≡ finding at (extra_checks (astray_of i.form.kind k) (full_of i.form.kind k))
   pub values : {policy : Policy} {k : Latest} → Tells policy k → (bs : List ℕ) (at : ℕ)
-      → finding (i.checks policy (values_at i.form bs at)) ≡ finding (faults_of i.form.kind k bs at)
+      → finding at (i.checks policy (values_at i.form bs at)) ≡ finding at (faults_of i.form.kind k bs at)
   pub after : {policy : Policy} {k : Latest} → Tells policy k → Holds (i.room policy) → (bs : List ℕ) (at : ℕ)
       → Tells (i.after policy (values_at i.form bs at)) (next_of i.form.kind k bs at)
   pub counts : (policy : Policy) → Holds (i.room policy) → (v : List ℕ) → records_in (i.after policy v) ≡ suc (records_in policy)
@@ -114,7 +114,13 @@ pub record Other (kind : ℕ) : Type 0 where
   pub no4 : kind ≢ 4
   pub no5 : kind ≢ 5
 
--- after a record: the next place, further on in the input, or the answer
-abbrev pub Follows : List ℕ → Cursor → Item → Type 0
-Follows bs c (Next d k) = Known bs d k × (c.at < d.at) × (d.at ≤ length bs)
-Follows bs c (Over r) = said r ≡ said_of (reading bs)
+-- after a record of an entry: the next place, further on in the input, or the refusal
+abbrev pub Entered : List ℕ → Cursor → Result (Cursor × Latest) Refused → Type 0
+Entered bs c (Ok t) = Known bs t.0 t.1 × (c.at < t.0.at) × (t.0.at ≤ length bs)
+Entered bs c (Err e) = refuses e.refusal e.place ≡ said_of (reading bs)
+
+-- after any record: the same, or nothing after the end
+abbrev pub Follows : List ℕ → Cursor → Result (Option (Cursor × Latest)) Refused → Type 0
+Follows bs c (Ok (Some t)) = Entered bs c (Ok t)
+Follows bs c (Ok None) = gives [] ≡ said_of (reading bs)
+Follows bs c (Err e) = refuses e.refusal e.place ≡ said_of (reading bs)

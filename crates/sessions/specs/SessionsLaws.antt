@@ -1,14 +1,15 @@
 -- What one pass over a policy file rests on: the code's tests are those of each entry, and how the pass goes on behind a record.
-use Rattle.std.specs.Prelude.{ℕ, suc, ◌+◌, ◌≤◌, ◌<◌, ◌≡◌, refl, ◌≢◌, Bool, true, false, not, ◌&&◌, ◌||◌, List, [], ◌∷◌, ◌++◌, length, get_or, drop, T, leb, ltb, eqb}
+use Rattle.std.specs.Prelude.{ℕ, suc, ◌+◌, ◌≤◌, ◌<◌, ◌≡◌, refl, Bool, true, false, not, ◌&&◌, ◌||◌, List, [], ◌∷◌, ◌++◌, length, get_or, drop, T, leb, ltb, eqb, Result, Ok, Err}
 use Rattle.std.proofs.Math.Decide.{dec_le}
 use Rattle.std.proofs.Common.{arith, sym, ap₂, ◌∙◌, subst, drop_of_length-le, drop-cons, ltb→lt, eq-eqb, ne_eqb, lt-ltb, le-ltb}
 use Rattle.std.proofs.Math.Path.{ap}
 use Rattle.std.proofs.Math.Bool.{cond, and-false, or-false}
 use Rattle.std.proofs.Math.Dec.{eqb-suc-zero}
-use Rattle.std.proofs.lemmas.Bool.{eqb-false}
+use Rattle.std.proofs.lemmas.Bool.Decides.{nat_tests}
 use Rattle.wire.specs.Numbers.{number_at}
 use Rattle.refusal.specs.declared.Refusal.{Refusal}
 use Rattle.refusal.specs.declared.Refusal.TheVariants.{Place, Full, Field, Order, Tail}
+use Rattle.refusal.specs.declared.Refused.{Refused}
 use Rattle.refusal.specs.Numbers.{refuses, gives}
 use Rattle.snapshot.specs.Ranges.{rises}
 use Rattle.snapshot.specs.Records.{Form, only, sum, size, values_at}
@@ -16,60 +17,40 @@ use Rattle.snapshot.specs.Format.{Check, ◌else◌, judged, Holds, latest}
 use Rattle.snapshot.specs.Reading.{AnswerOf, refused, unless, either, tail, end_record}
 use Rattle.snapshot.proofs.ChecksLaws.{length_snoc}
 use Rattle.cursor.specs.declared.Cursor.{Cursor}
-use Rattle.cursor.specs.declared.Body.{Body}
-use Rattle.cursor.specs.declared.Finding.{Finding}
-use Rattle.cursor.specs.declared.Finding.TheVariants.{Clear, Fault}
-use Rattle.cursor.specs.Steps.{finding, body_of, body_length, opening_checks, end_by, behind, judged_at, ending}
-use Rattle.cursor.specs.StepsLaws.{on_finding, finding_holds, holds_finding, judged_finding, opened, ltb_leb, extra_checks, record_found, end_table}
+use Rattle.cursor.specs.Steps.{begin, refused_at, finding, body_of, body_length, opening_checks, end_by, behind, judged_at, ending}
+use Rattle.cursor.specs.StepsLaws.{on_finding, finding_holds, holds_finding, judged_finding, opened, ltb_leb, extra_checks, record_found, end_table_found}
 use Rattle.policy.specs.Policy.{Clause, Session, Policy, most_sessions, most_clauses, policy_forms, exact_form, direct_form, any_form, clause_checks, session_checks, records_in}
 use Rattle.policy.specs.Reading.{last, with_clause, with_zero, bare, on_latest, Entry, session_entry, clause_entry, zero_entry, exact_clause, direct_clause, any_clause, entries, among, entry_record, records_from, reading}
 use Rattle.policy.proofs.AcceptsLaws.{length_on}
 use Rattle.policy.proofs.PlaceLaws.{records_one, latest_last, last_snoc, last_on, records_session, records_clause, records_zero}
 use Rattle.sessions.specs.declared.Latest.{Latest}
-use Rattle.sessions.specs.declared.Item.TheVariants.{Next}
-use Rattle.sessions.specs.Sessions.{said_of, astray_of, full_of, session_faults, faults_of, more_session, more_of, next_of, Tells, Reads, Known, Agrees, Listed, listed, Other, Follows}
-
--- ---- by kind
-
--- the body of a kind that is known
-pub at_kind : (bs : List ℕ) (at : ℕ) {kind n : ℕ} → kind ≡ n → at + body_length policy_forms kind < length bs → at + body_length policy_forms n < length bs
-at_kind bs at e h = subst (λ (n : ℕ). at + body_length policy_forms n < length bs) e h
-
-module _ (bs : List ℕ) (at : ℕ) (k : Latest) {kind : ℕ} (no1 : kind ≢ 1) where
-  pub no_faults : kind ≢ 2 → kind ≢ 3 → Clear ≡ finding (faults_of kind k bs at)
-  no_faults no2 no3 = simp (ne_eqb kind 1 no1, ne_eqb kind 2 no2, ne_eqb kind 3 no3)
-
-  pub next_clause : kind ≢ 5 → more_of k (k.clauses + 1) ≡ next_of kind k bs at
-  next_clause no5 = simp (ne_eqb kind 1 no1, ne_eqb kind 5 no5)
+use Rattle.sessions.specs.Sessions.{unread, said_of, astray_of, full_of, session_faults, faults_of, more_session, more_of, next_of, Tells, Reads, Known, Agrees, Listed, listed, Other, Entered}
 
 -- ---- each entry
 
 -- a session with a peer address other than 0 rises above nobody
 above_nobody : (router peer : ℕ) → eqb peer 0 ≡ false → rises 0 0 router peer ≡ true
-above_nobody router peer e =
-    let some = eqb-false peer 0 e in
-    go (dec_le 1 router) (lt-ltb 0 peer (omega arith))
-  where
-    go : Dec (0 < router) → ltb 0 peer ≡ true → rises 0 0 router peer ≡ true
-    go (yes h) p = rw (lt-ltb 0 router h)
-    go (no h) p = let is : router ≡ 0 = omega arith in rw (is, p)
+above_nobody router peer e = grind (arith, nat_tests)
 
 module _ {policy : Policy} {k : Latest} (t : Tells policy k) where
-  -- a kind 1
-  session_room : finding ((ltb (length policy) most_sessions else Full) ∷ []) ≡ finding (extra_checks false (leb most_sessions k.sessions || false))
-  session_room =
-      ap (λ (b : Bool). cond b Clear (Fault Full))
-      (ap (λ (n : ℕ). ltb n most_sessions) (sym t.sessions) ∙ ltb_leb k.sessions most_sessions ∙ ap not (sym (or-false (leb most_sessions k.sessions))))
+  -- what a last check finds at a place
+  abbrev one : ℕ → Refusal → Bool → Result (Unit {0}) Refused
+  one at r b = cond b (Ok tt) (Err (refused_at at r))
 
-  session_values : (router peer : ℕ) → finding (session_checks policy router peer) ≡ finding (session_faults k router peer)
-  session_values router peer = go (eqb peer 0) refl
+  -- a kind 1
+  session_room : (at : ℕ) → finding at ((ltb (length policy) most_sessions else Full) ∷ []) ≡ finding at (extra_checks false (leb most_sessions k.sessions || false))
+  session_room at =
+      ap (one at Full) (ap (λ (n : ℕ). ltb n most_sessions) (sym t.sessions) ∙ ltb_leb k.sessions most_sessions ∙ ap not (sym (or-false (leb most_sessions k.sessions))))
+
+  session_values : (at router peer : ℕ) → finding at (session_checks policy router peer) ≡ finding at (session_faults k router peer)
+  session_values at router peer = go (eqb peer 0) refl
     where
       go : (b : Bool) → eqb peer 0 ≡ b
-          → cond (not b) (cond (latest (λ s. rises s.router s.peer router peer) policy) Clear (Fault Order)) (Fault Field)
-          ≡ cond (not b) (cond (rises k.router k.peer router peer) Clear (Fault Order)) (Fault Field)
+          → cond (not b) (one at Order (latest (λ s. rises s.router s.peer router peer) policy)) (Err (refused_at at Field))
+          ≡ cond (not b) (one at Order (rises k.router k.peer router peer)) (Err (refused_at at Field))
       go true e = refl
       go false e =
-          ap (λ (b : Bool). cond b Clear (Fault Order))
+          ap (one at Order)
           (latest_last (λ s. rises s.router s.peer router peer) (above_nobody router peer e) policy
           ∙ ap₂ (λ (a b : ℕ). rises a b router peer) (sym t.router) (sym t.peer))
 
@@ -95,10 +76,10 @@ module _ {policy : Policy} {k : Latest} (t : Tells policy k) where
   shorter : latest (λ s. ltb (length s.clauses) most_clauses) policy ≡ ltb k.clauses most_clauses
   shorter = latest_last (λ s. ltb (length s.clauses) most_clauses) refl policy ∙ ap (λ (n : ℕ). ltb n most_clauses) (sym t.clauses)
 
-  clause_room : finding ((not (eqb (length policy) 0) else Place) ∷ (latest (λ s. ltb (length s.clauses) most_clauses) policy else Full) ∷ [])
-      ≡ finding (extra_checks (eqb k.sessions 0 || false) (leb most_clauses k.clauses))
-  clause_room =
-      ap₂ (λ (a b : Bool). cond (not a) (cond b Clear (Fault Full)) (Fault Place))
+  clause_room : (at : ℕ) → finding at ((not (eqb (length policy) 0) else Place) ∷ (latest (λ s. ltb (length s.clauses) most_clauses) policy else Full) ∷ [])
+      ≡ finding at (extra_checks (eqb k.sessions 0 || false) (leb most_clauses k.clauses))
+  clause_room at =
+      ap₂ (λ (a b : Bool). cond (not a) (one at Full b) (Err (refused_at at Place)))
       (ap (λ (n : ℕ). eqb n 0) (sym t.sessions) ∙ sym (or-false (eqb k.sessions 0)))
       (shorter ∙ ltb_leb k.clauses most_clauses)
 
@@ -121,13 +102,13 @@ module _ {policy : Policy} {k : Latest} (t : Tells policy k) where
       }
 
   -- a kind 5
-  zero_room : finding ((not (eqb (length policy) 0) else Place) ∷ (latest bare policy else Place) ∷ []) ≡ finding (extra_checks (eqb k.sessions 0 || not k.bare) false)
-  zero_room =
-      ap₂ (λ (a b : Bool). cond (not a) (cond b Clear (Fault Place)) (Fault Place))
+  zero_room : (at : ℕ) → finding at ((not (eqb (length policy) 0) else Place) ∷ (latest bare policy else Place) ∷ []) ≡ finding at (extra_checks (eqb k.sessions 0 || not k.bare) false)
+  zero_room at =
+      ap₂ (λ (a b : Bool). cond (not a) (one at Place b) (Err (refused_at at Place)))
       (ap (λ (n : ℕ). eqb n 0) (sym t.sessions)) (latest_last bare refl policy ∙ sym t.bare)
       ∙ join (eqb k.sessions 0) k.bare
     where
-      join : (a b : Bool) → cond (not a) (cond b Clear (Fault Place)) (Fault Place) ≡ finding (extra_checks (a || not b) false)
+      join : (a b : Bool) → cond (not a) (one at Place b) (Err (refused_at at Place)) ≡ finding at (extra_checks (a || not b) false)
       join true b = refl
       join false true = refl
       join false false = refl
@@ -150,8 +131,8 @@ unfolding among either
 session_agrees = record {
   long = refl;
   chosen = λ its otherwise. refl;
-  room = λ t. session_room t;
-  values = λ t bs at. session_values t (number_at 1 bs (at + 1)) (number_at 4 bs (at + 2));
+  room = λ t at. session_room t at;
+  values = λ t bs at. session_values t at (number_at 1 bs (at + 1)) (number_at 4 bs (at + 2));
   after = λ t h bs at. tells_session t (number_at 1 bs (at + 1)) (number_at 4 bs (at + 2)) h.0;
   counts = λ policy h v. records_session policy (get_or v 0 0) (get_or v 1 0);
 }
@@ -160,12 +141,12 @@ session_agrees = record {
 clause_agrees : (f : Form) (of : List ℕ → Clause)
     → ((its : Entry → AnswerOf Policy) (otherwise : Unit {0} → AnswerOf Policy) → among entries f.kind its otherwise ≡ its (clause_entry f of))
     → body_length policy_forms f.kind ≡ sum f.widths
-    → ((k : Latest) (bs : List ℕ) (at : ℕ) → finding (clause_checks (of (values_at f bs at))) ≡ finding (faults_of f.kind k bs at))
+    → ((k : Latest) (bs : List ℕ) (at : ℕ) → finding at (clause_checks (of (values_at f bs at))) ≡ finding at (faults_of f.kind k bs at))
     → eqb f.kind 1 ≡ false → eqb f.kind 5 ≡ false → Agrees (clause_entry f of)
 clause_agrees f of chosen long values no1 no5 = record {
   long = long;
   chosen = chosen;
-  room = λ t. rw (no1, no5) (clause_room t);
+  room = λ t at. rw (no1, no5) (clause_room t at);
   values = λ {policy} {k} t bs at. values k bs at;
   after = λ t h bs at. rw (no1, no5) (tells_clause t (of (values_at f bs at)) h.0 h.1.0);
   counts = λ policy h v. records_clause (of v) _ policy h.0 h.1.0;
@@ -176,7 +157,7 @@ unfolding among either
 zero_agrees = record {
   long = refl;
   chosen = λ its otherwise. refl;
-  room = λ t. zero_room t;
+  room = λ t at. zero_room t at;
   values = λ t bs at. refl;
   after = λ t h bs at. tells_zero t h.0;
   counts = λ policy h v. records_zero policy h.0 h.1.0;
@@ -233,39 +214,45 @@ module _ {bs : List ℕ} {c : Cursor} {k : Latest} (known : Known bs c k) (i : E
   abbrev kind : ℕ
   kind = i.form.kind
 
-  abbrev stop : Refusal → AnswerOf Policy
-  stop r = refused r at
+  abbrev stop : Refused → AnswerOf Policy
+  stop e = refused e.refusal e.place
 
   abbrev on : Unit {0} → AnswerOf Policy
   on _ = records_from (i.after policy (values_at i.form bs at)) (at + size i.form) (drop (at + size i.form) bs)
 
-  room_same : (go : Unit {0} → AnswerOf Policy) → judged (i.room policy) stop go ≡ judged (extra_checks (astray_of kind k) (full_of kind k)) stop go
-  room_same go =
-      judged_finding (i.room policy) stop go ∙ ap (on_finding stop go) (a.room known.tells)
-      ∙ sym (judged_finding (extra_checks (astray_of kind k) (full_of kind k)) stop go)
+  abbrev opened_as : Result (Unit {0}) Refused
+  opened_as = finding at (opening_of bs at kind k)
 
-  entry_found : reading bs ≡ on_finding stop (λ _. on_finding stop on (finding (faults_of kind k bs at))) (finding (opening_of bs at kind k))
+  abbrev valued_as : Result (Unit {0}) Refused
+  valued_as = finding at (faults_of kind k bs at)
+
+  room_same : (go : Unit {0} → AnswerOf Policy) → judged (i.room policy) (λ r. refused r at) go ≡ judged (extra_checks (astray_of kind k) (full_of kind k)) (λ r. refused r at) go
+  room_same go =
+      judged_finding at (i.room policy) stop go ∙ ap (on_finding stop go) (a.room known.tells at)
+      ∙ sym (judged_finding at (extra_checks (astray_of kind k) (full_of kind k)) stop go)
+
+  entry_found : reading bs ≡ on_finding stop (λ _. on_finding stop on valued_as) opened_as
   unfolding entry_record
   entry_found =
       reads_one known.reads is ∙ a.chosen (with_entry bs at policy) (λ _. with_end bs at policy c.records)
       ∙ record_found policy_forms bs at (only i.form) (i.room policy) (astray_of kind k) (full_of kind k) (i.checks policy) stop on a.long room_same
-      ∙ ap (λ (x : Finding). on_finding stop (λ _. on_finding stop on x) (finding (opening_of bs at kind k)))
-      (ap (λ (b : Bool). cond b (finding (i.checks policy (values_at i.form bs at))) (Fault Field)) (eq-eqb kind kind refl) ∙ a.values known.tells bs at)
+      ∙ ap (λ (x : Result (Unit {0}) Refused). on_finding stop (λ _. on_finding stop on x) opened_as)
+      (ap (λ (b : Bool). cond b (finding at (i.checks policy (values_at i.form bs at))) (Err (refused_at at Field))) (eq-eqb kind kind refl) ∙ a.values known.tells bs at)
 
-  opening_stops : {r : Refusal} → Fault r ≡ finding (opening_of bs at kind k) → reading bs ≡ refused r at
-  opening_stops e = entry_found ∙ sym (ap (on_finding stop (λ _. on_finding stop on (finding (faults_of kind k bs at)))) e)
+  opening_stops : {e : Refused} → Err e ≡ opened_as → reading bs ≡ refused e.refusal e.place
+  opening_stops e = entry_found ∙ sym (ap (on_finding stop (λ _. on_finding stop on valued_as)) e)
 
-  module _ (clear : Clear ≡ finding (opening_of bs at kind k)) where
-    values_found : {x : Finding} → x ≡ finding (faults_of kind k bs at) → reading bs ≡ on_finding stop on x
-    values_found e = entry_found ∙ sym (ap (on_finding stop (λ _. on_finding stop on (finding (faults_of kind k bs at)))) clear) ∙ sym (ap (on_finding stop on) e)
+  module _ (clear : Ok tt ≡ opened_as) where
+    values_found : {x : Result (Unit {0}) Refused} → x ≡ valued_as → reading bs ≡ on_finding stop on x
+    values_found e = entry_found ∙ sym (ap (on_finding stop (λ _. on_finding stop on valued_as)) clear) ∙ sym (ap (on_finding stop on) e)
 
     room_holds : Holds (i.room policy)
     room_holds =
-        let h : Holds (opening_of bs at kind k) = finding_holds (opening_of bs at kind k) clear in
-        finding_holds (i.room policy)
-        (holds_finding (extra_checks (astray_of kind k) (full_of kind k)) (h.1.1.1.0, (h.1.1.1.1.0, tt)) ∙ sym (a.room known.tells))
+        let h : Holds (opening_of bs at kind k) = finding_holds at (opening_of bs at kind k) clear in
+        finding_holds at (i.room policy)
+        (holds_finding at (extra_checks (astray_of kind k) (full_of kind k)) (h.1.1.1.0, (h.1.1.1.1.0, tt)) ∙ sym (a.room known.tells at))
 
-    goes_on : Clear ≡ finding (faults_of kind k bs at) → Follows bs c (Next (behind c (size i.form)) (next_of kind k bs at))
+    goes_on : Ok tt ≡ valued_as → Entered bs c (Ok (behind c (size i.form), next_of kind k bs at))
     goes_on e =
         let whole : at + sum i.form.widths < length bs = subst (λ (n : ℕ). at + n < length bs) a.long (opened policy_forms bs at kind (astray_of kind k) (full_of kind k) clear) in
         let more : records_in (i.after policy (values_at i.form bs at)) ≡ suc (records_in policy) = a.counts policy room_holds (values_at i.form bs at) in
@@ -281,16 +268,16 @@ module _ {bs : List ℕ} {c : Cursor} {k : Latest} (known : Known bs c k) (i : E
 
 module _ {bs : List ℕ} {c : Cursor} {k : Latest} where
   -- the record stops at its opening, or at its values, or the pass goes on
-  pub entry_opening : {kind bytes : ℕ} {r : Refusal} → Known bs c k → Listed kind bytes → get_or bs c.at 0 ≡ kind → Fault r ≡ finding (opening_of bs c.at kind k)
-      → refuses r c.at ≡ said_of (reading bs)
+  pub entry_opening : {kind bytes : ℕ} {e : Refused} → Known bs c k → Listed kind bytes → get_or bs c.at 0 ≡ kind → Err e ≡ finding c.at (opening_of bs c.at kind k)
+      → refuses e.refusal e.place ≡ said_of (reading bs)
   entry_opening known (listed i a) is e = ap said_of (sym (opening_stops known i a is e))
 
-  pub entry_values : {kind bytes : ℕ} {r : Refusal} → Known bs c k → Listed kind bytes → get_or bs c.at 0 ≡ kind → Clear ≡ finding (opening_of bs c.at kind k)
-      → Fault r ≡ finding (faults_of kind k bs c.at) → refuses r c.at ≡ said_of (reading bs)
+  pub entry_values : {kind bytes : ℕ} {e : Refused} → Known bs c k → Listed kind bytes → get_or bs c.at 0 ≡ kind → Ok tt ≡ finding c.at (opening_of bs c.at kind k)
+      → Err e ≡ finding c.at (faults_of kind k bs c.at) → refuses e.refusal e.place ≡ said_of (reading bs)
   entry_values known (listed i a) is clear e = ap said_of (sym (values_found known i a is clear e))
 
-  pub entry_next : {kind bytes : ℕ} → Known bs c k → Listed kind bytes → get_or bs c.at 0 ≡ kind → Clear ≡ finding (opening_of bs c.at kind k)
-      → Clear ≡ finding (faults_of kind k bs c.at) → Follows bs c (Next (behind c bytes) (next_of kind k bs c.at))
+  pub entry_next : {kind bytes : ℕ} → Known bs c k → Listed kind bytes → get_or bs c.at 0 ≡ kind → Ok tt ≡ finding c.at (opening_of bs c.at kind k)
+      → Ok tt ≡ finding c.at (faults_of kind k bs c.at) → Entered bs c (Ok (behind c bytes, next_of kind k bs c.at))
   entry_next known (listed i a) is clear e = goes_on known i a is clear e
 
 -- the bytes of a record: its kind's one and its body
@@ -317,19 +304,19 @@ unfolding among either
 among_none kind its otherwise o = simp (ne_eqb kind 1 o.no1, ne_eqb kind 2 o.no2, ne_eqb kind 3 o.no3, ne_eqb kind 4 o.no4, ne_eqb kind 5 o.no5)
 
 -- by the body that the policy's table gives for the kind that stands there
-pub end_said_lem : {bs : List ℕ} {c : Cursor} {kind : ℕ} {body : Body} → Reads bs c → get_or bs c.at 0 ≡ kind → Other kind → body ≡ body_of policy_forms kind
+pub end_said_lem : {bs : List ℕ} {c : Cursor} {kind : ℕ} {body : Result ℕ Refusal} → Reads bs c → get_or bs c.at 0 ≡ kind → Other kind → body ≡ body_of policy_forms kind
     → judged_at c.at (end_by body c.records bs c.at) (ending bs (c.at + 5)) ≡ said_of (reading bs)
 end_said_lem {bs} {c} {kind} {body} reads is o given =
     let at : ℕ = c.at in
     let checks : List Check = end_record policy_forms c.records (drop at bs) in
-    end_table body c.records bs at (λ r. refuses r at) (λ _. ending bs (at + 5)) policy_forms refl (given ∙ ap (body_of policy_forms) (sym is))
+    end_table_found bs at (ending bs (at + 5)) policy_forms body c.records refl (given ∙ ap (body_of policy_forms) (sym is))
     ∙ ap (judged_at at checks) (sym (tail_said bs (at + 5) reads.policy))
     ∙ sym (judged_through said_of checks (λ r. refused r at) (λ _. tail reads.policy (at + 5) (drop (at + 5) bs)))
     ∙ sym (ap said_of (reads_one reads is ∙ among_none kind (with_entry bs at reads.policy) (λ _. with_end bs at reads.policy c.records) o))
 
 -- ---- at the start
 
-pub known_start : (bs : List ℕ) → Known bs (record { at = 0; records = 0 }) (record { sessions = 0; router = 0; peer = 0; bare = true; clauses = 0 })
+pub known_start : (bs : List ℕ) → Known bs begin unread
 known_start bs = record {
   reads = record { policy = []; same = refl; count = refl; low = omega arith };
   tells = record { sessions = refl; router = refl; peer = refl; bare = refl; clauses = refl; few = omega arith; short = omega arith };

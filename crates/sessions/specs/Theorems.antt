@@ -1,21 +1,17 @@
 -- The promise of judging determines its answer: number and values tell it.
-use Rattle.std.specs.Prelude.{◌≡◌, refl, ℕ, []}
+use Rattle.std.specs.Prelude.{◌≡◌, refl, ℕ, [], Result}
 use Rattle.std.proofs.Common.{sym}
 use Rattle.refusal.specs.declared.Refusal.{Refusal}
+use Rattle.refusal.specs.declared.Refused.{Refused}
 use Rattle.refusal.specs.Numbers.{refuses, gives}
-use Rattle.refusal.proofs.NumbersLaws.{same_refusal, gives_refuses}
+use Rattle.refusal.proofs.NumbersLaws.{same_refusal, gives_refuses, answer_tells}
 use Rattle.snapshot.specs.Reading.{AnswerOf, accepted, refused}
 use Rattle.policy.specs.Policy.{Policy}
-use Rattle.sessions.specs.declared.Judged.{Judged}
-use Rattle.sessions.specs.declared.Judged.TheVariants.{Accepted, Refused}
 use Rattle.sessions.specs.Sessions.{said, said_of}
 
 -- "that any two results meeting it are equal is proved"
-pub said_tells : (a b : Judged) → said a ≡ said b → a ≡ b
-said_tells Accepted Accepted e = refl
-said_tells Accepted (Refused r at) e = absurd (gives_refuses r at _ e)
-said_tells (Refused r at) Accepted e = absurd (gives_refuses r at _ (sym e))
-said_tells (Refused r at) (Refused q place) e = same_refusal Refused r q at place e
+pub said_tells : (a b : Result (Unit {0}) Refused) → said a ≡ said b → a ≡ b
+said_tells = answer_tells (λ _. []) (λ t u e. refl)
 
 -- and the numbers of what reading answers tell that
 pub read_accepted : (a : AnswerOf Policy) → gives [] ≡ said_of a → (policy : Policy) × (a ≡ accepted policy)

@@ -6,3 +6,4 @@ pub mod Reading
 pub mod Longest
 pub mod Plain
 pub mod Tables
+pub mod Lent

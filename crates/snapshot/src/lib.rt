@@ -2,11 +2,12 @@
 // of its ranges and of the tables' room, which reading and the judging of tables share.
 #![tactic(auto)]
 
-ghost use Rattle.std.specs.Prelude.{◌≡◌, not};
+ghost use Rattle.std.specs.Prelude.{◌≡◌, false, not};
 ghost use Rattle.snapshot.specs.Ranges.{any_of, count_tests, id_tests, distance_tests, prefix_tests, asn_tests, route_tests, rises};
 ghost use Rattle.snapshot.specs.Records.{four_byte, route_form_by, route_forms, stands, size};
 ghost use Rattle.snapshot.specs.Plain.{route_is};
-ghost use Rattle.snapshot.specs.Tables.{short_lengths};
+ghost use Rattle.snapshot.specs.Tables.{short};
+ghost use Rattle.snapshot.specs.Lent.{tables_of, lent_tables};
 
 // The limits, with the names of specs/Limits.antt.
 pub const MOST_ROUTERS: u32 = 64;
@@ -167,38 +168,190 @@ pub fn late(a: u32, b: u32, c: u32, d: u32) -> bool
     !((a < c) | ((a == c) & (b < d)))
 }
 
-// Whether one of fourteen tables is shorter than its limit (ROOM), by their numbers of entries: lengths are handed on more cheaply
-// than slices.
-pub fn lacks_room(
-    ids: usize,
-    distances: usize,
-    address: usize,
-    bits: usize,
-    routes: usize,
-    router: usize,
-    asn: usize,
-    preference: usize,
-    path: usize,
-    origin: usize,
-    mark: usize,
-    med: usize,
-    nid: usize,
-    peer: usize,
-) -> bool
-    ensures { result ≡ any_of (short_lengths ids distances address bits routes router asn preference path origin mark med nid peer) }
-{
-    (ids < MOST_ROUTERS as usize)
-        | (distances < ROOM_DISTANCES)
-        | (address < MOST_PREFIXES as usize)
-        | (bits < MOST_PREFIXES as usize)
-        | (routes < MOST_PREFIXES as usize)
-        | (router < MOST_ROUTES as usize)
-        | (asn < MOST_ROUTES as usize)
-        | (preference < MOST_ROUTES as usize)
-        | (path < MOST_ROUTES as usize)
-        | (origin < MOST_ROUTES as usize)
-        | (mark < MOST_ROUTES as usize)
-        | (med < MOST_ROUTES as usize)
-        | (nid < MOST_ROUTES as usize)
-        | (peer < MOST_ROUTES as usize)
+// The columns of the routes, lent to be read.
+#[derive(Clone, Copy)]
+pub struct Columns<'a> {
+    pub router: &'a [u32],
+    pub asn: &'a [u32],
+    pub preference: &'a [u32],
+    pub path: &'a [u32],
+    pub origin: &'a [u32],
+    pub mark: &'a [u32],
+    pub med: &'a [u32],
+    pub nid: &'a [u32],
+    pub peer: &'a [u32],
+}
+
+// The tables of a snapshot, lent to be read: router ids, distances, a column for each field of a prefix, one with its number of routes,
+// and the columns of the routes.
+#[derive(Clone, Copy)]
+pub struct Tables<'a> {
+    pub ids: &'a [u32],
+    pub distances: &'a [u32],
+    pub address: &'a [u32],
+    pub bits: &'a [u32],
+    pub routes: &'a [u32],
+    pub rows: Columns<'a>,
+}
+
+// The columns of the routes, lent to be filled.
+#[derive(Drop)]
+pub struct LentColumns<'a> {
+    pub router: &'a mut [u32],
+    pub asn: &'a mut [u32],
+    pub preference: &'a mut [u32],
+    pub path: &'a mut [u32],
+    pub origin: &'a mut [u32],
+    pub mark: &'a mut [u32],
+    pub med: &'a mut [u32],
+    pub nid: &'a mut [u32],
+    pub peer: &'a mut [u32],
+}
+
+// The tables of a snapshot, lent to be filled. The columns stand among them and not in a struct of their own: of a reference that lies in a
+// struct in a struct, the caller who lent it learns nothing.
+#[derive(Drop)]
+pub struct LentTables<'a> {
+    pub ids: &'a mut [u32],
+    pub distances: &'a mut [u32],
+    pub address: &'a mut [u32],
+    pub bits: &'a mut [u32],
+    pub routes: &'a mut [u32],
+    pub router: &'a mut [u32],
+    pub asn: &'a mut [u32],
+    pub preference: &'a mut [u32],
+    pub path: &'a mut [u32],
+    pub origin: &'a mut [u32],
+    pub mark: &'a mut [u32],
+    pub med: &'a mut [u32],
+    pub nid: &'a mut [u32],
+    pub peer: &'a mut [u32],
+}
+
+impl<'a> LentTables<'a> {
+    // The same tables, to be read.
+    pub fn view(&self) -> Tables<'_>
+        ensures { tables_of result ≡ lent_tables self.now }
+    {
+        Tables {
+            ids: &*self.ids,
+            distances: &*self.distances,
+            address: &*self.address,
+            bits: &*self.bits,
+            routes: &*self.routes,
+            rows: Columns {
+                router: &*self.router,
+                asn: &*self.asn,
+                preference: &*self.preference,
+                path: &*self.path,
+                origin: &*self.origin,
+                mark: &*self.mark,
+                med: &*self.med,
+                nid: &*self.nid,
+                peer: &*self.peer,
+            },
+        }
+    }
+}
+
+impl<'a> Tables<'a> {
+    // Whether a table is shorter than its limit (ROOM).
+    pub fn lacks_room(&self) -> bool
+        ensures { result ≡ any_of (short (tables_of self.now)) }
+    {
+        let rows = &self.rows;
+        (self.ids.len() < MOST_ROUTERS as usize)
+            | (self.distances.len() < ROOM_DISTANCES)
+            | (self.address.len() < MOST_PREFIXES as usize)
+            | (self.bits.len() < MOST_PREFIXES as usize)
+            | (self.routes.len() < MOST_PREFIXES as usize)
+            | (rows.router.len() < MOST_ROUTES as usize)
+            | (rows.asn.len() < MOST_ROUTES as usize)
+            | (rows.preference.len() < MOST_ROUTES as usize)
+            | (rows.path.len() < MOST_ROUTES as usize)
+            | (rows.origin.len() < MOST_ROUTES as usize)
+            | (rows.mark.len() < MOST_ROUTES as usize)
+            | (rows.med.len() < MOST_ROUTES as usize)
+            | (rows.nid.len() < MOST_ROUTES as usize)
+            | (rows.peer.len() < MOST_ROUTES as usize)
+    }
+}
+
+// Room for the tables of a snapshot, each as long as its limit.
+#[derive(Drop)]
+pub struct Arrays {
+    ids: [u32; MOST_ROUTERS as usize],
+    distances: [u32; ROOM_DISTANCES],
+    address: [u32; MOST_PREFIXES as usize],
+    bits: [u32; MOST_PREFIXES as usize],
+    routes: [u32; MOST_PREFIXES as usize],
+    router: [u32; MOST_ROUTES as usize],
+    asn: [u32; MOST_ROUTES as usize],
+    preference: [u32; MOST_ROUTES as usize],
+    path: [u32; MOST_ROUTES as usize],
+    origin: [u32; MOST_ROUTES as usize],
+    mark: [u32; MOST_ROUTES as usize],
+    med: [u32; MOST_ROUTES as usize],
+    nid: [u32; MOST_ROUTES as usize],
+    peer: [u32; MOST_ROUTES as usize],
+}
+
+impl Arrays {
+    // Room that is to be filled: what stands in it does not matter.
+    pub fn new() -> Arrays {
+        Arrays {
+            ids: [0; MOST_ROUTERS as usize],
+            distances: [0; ROOM_DISTANCES],
+            address: [0; MOST_PREFIXES as usize],
+            bits: [0; MOST_PREFIXES as usize],
+            routes: [0; MOST_PREFIXES as usize],
+            router: [0; MOST_ROUTES as usize],
+            asn: [0; MOST_ROUTES as usize],
+            preference: [0; MOST_ROUTES as usize],
+            path: [0; MOST_ROUTES as usize],
+            origin: [0; MOST_ROUTES as usize],
+            mark: [0; MOST_ROUTES as usize],
+            med: [0; MOST_ROUTES as usize],
+            nid: [0; MOST_ROUTES as usize],
+            peer: [0; MOST_ROUTES as usize],
+        }
+    }
+
+    // The tables, none of which lacks room.
+    pub fn lend(&mut self) -> LentTables<'_>
+        ensures { any_of (short (lent_tables result)) ≡ false }
+    {
+        let Arrays {
+            ids,
+            distances,
+            address,
+            bits,
+            routes,
+            router,
+            asn,
+            preference,
+            path,
+            origin,
+            mark,
+            med,
+            nid,
+            peer,
+        } = self;
+        LentTables {
+            ids,
+            distances,
+            address,
+            bits,
+            routes,
+            router,
+            asn,
+            preference,
+            path,
+            origin,
+            mark,
+            med,
+            nid,
+            peer,
+        }
+    }
 }

@@ -1,136 +1,84 @@
 // The rows of its own at which each router stands when the contest of a prefix comes to rest, early and late, over lent columns.
 #![tactic(auto)]
 
-ghost use Rattle.std.specs.Prelude.{◌≡◌, ℕ, ◌≤◌, ◌<◌, true, false, length, get_or};
+ghost use Rattle.std.specs.Prelude.{◌≡◌, ℕ, ◌≤◌, ◌<◌, true, false, length};
 ghost use Rattle.model.specs.Rows.{table, column, start};
-ghost use Rattle.model.specs.Decision.{none};
 ghost use Rattle.model.specs.Lent.{Inside};
-ghost use Rattle.model.specs.Columns.{most_rows, columns, Fits};
+ghost use Rattle.model.specs.Columns.{most_routers, most_rows, Fits};
 ghost use Rattle.model.specs.Listing.{counts_in, gathered, groups_in, stands_at, settled_by, rest_in, Ready, RestRows};
+ghost use Rattle.rows.specs.Lent.{columns_in};
 
-// The row listed at a place, or none.
-fn row_at(rows: &[u16], place: u32) -> u16
-    ensures { result ≡ get_or rows.now place none }
-{
-    let i = place as usize;
-    if i < rows.len() {
-        return rows[i];
-    }
-    rows::NONE
-}
+use rows::Routes;
+use settle::Contest;
 
 // For each router the contender that stands at the place which the state gives it, or none.
 fn rows_at(order: &[u16], ends: &[u32], state: &[u32], own: &mut [u16])
-    requires { (length order.now ≤ most_rows) × (start ends.now (length ends.now) ≡ length order.now) × (length state.now ≡ length ends.now) × (length own.old ≡ length ends.now) }
+    requires few { length order.now ≤ most_rows }
+    requires whole { start ends.now (length ends.now) ≡ length order.now }
+    requires lengths { (length state.now ≡ length ends.now) × (length own.old ≡ length ends.now) }
     ensures { own.new ≡ table (length ends.now) (stands_at order.now ends.now state.now) }
 {
-    let mut from: usize = 0;
-    for r in 0..ends.len() {
-        let to = from + ends[r] as usize;
-        own[r] = row_at(&order[from..to], state[r]);
-        from = to;
+    let mut rest = order;
+    // Of a zip over iter_mut the kit's proofs do not know what it leaves in the slice, so ends and places are read by number.
+    for (r, row) in own.iter_mut().enumerate() {
+        let (mine, others) = rest.split_at(ends[r] as usize);
+        *row = mine.get(state[r] as usize).copied().unwrap_or(rows::NONE);
+        rest = others;
     }
 }
 
-// The rows at which the routers stand where rounds lead from the late or the early start, in the room that is lent.
-fn rest_in(
-    late: bool,
-    order: &[u16],
-    group: &[u32],
-    med: &[u32],
-    ends: &[u32],
-    state: &mut [u32],
-    own: &mut [u16],
-)
-    requires ready { Ready group.now med.now ends.now }
-    requires order_len { (length order.now ≡ length group.now) × (length state.old ≡ length ends.now) × (length own.old ≡ length ends.now) }
-    ensures { own.new ≡ table (length ends.now) (stands_at order.now ends.now (settled_by late group.now med.now ends.now)) }
+// The early and the late rows at which the routers stand in a contest whose contenders are these rows.
+fn rest_of(contest: &Contest<'_>, order: &[u16], early: &mut [u16], late: &mut [u16])
+    requires order_len { length order.now ≡ length contest.now.group.now }
+    requires lengths { (length early.old ≡ length contest.now.ends.now) × (length late.old ≡ length contest.now.ends.now) }
+    ensures early_rows { early.new ≡ table (length contest.now.ends.now) (stands_at order.now contest.now.ends.now (settled_by false contest.now.group.now contest.now.med.now contest.now.ends.now)) }
+    ensures late_rows { late.new ≡ table (length contest.now.ends.now) (stands_at order.now contest.now.ends.now (settled_by true contest.now.group.now contest.now.med.now contest.now.ends.now)) }
 {
-    settle::settled(late, group, med, ends, state);
-    rows_at(order, ends, state, own);
+    let mut places = settle::unplaced();
+    let state = &mut places[..contest.ends.len()];
+    contest.earliest(state);
+    rows_at(order, contest.ends, state, early);
+    contest.latest(state);
+    rows_at(order, contest.ends, state, late);
 }
 
-// The rows at which the routers stand where rounds lead from the late or the early start.
-fn rest(late: bool, order: &[u16], group: &[u32], med: &[u32], ends: &[u32], own: &mut [u16])
-    requires ready { Ready group.now med.now ends.now }
-    requires order_len { (length order.now ≡ length group.now) × (length own.old ≡ length ends.now) }
-    ensures { own.new ≡ table (length ends.now) (stands_at order.now ends.now (settled_by late group.now med.now ends.now)) }
+// The early and the late rows at which the routers stand, where the contenders are listed in order.
+fn rest_rows(routes: &Routes<'_>, order: &[u16], early: &mut [u16], late: &mut [u16])
+    requires inside { Inside (length routes.now.router.now) order.now × (length routes.now.asn.now ≡ length routes.now.router.now) × (length routes.now.med.now ≡ length routes.now.router.now) }
+    requires owned { (q : ℕ) → q < length routes.now.router.now → column routes.now.router.now q < length early.old }
+    requires few { (length order.now ≤ most_rows) × (length early.old ≤ most_routers) }
+    requires late_len { length late.old ≡ length early.old }
+    requires ready { Ready (groups_in routes.now.asn.now order.now) (gathered routes.now.med.now order.now) (counts_in routes.now.router.now (length early.old) order.now) }
+    ensures early_rows { early.new ≡ rest_in false (length early.old) routes.now.router.now routes.now.asn.now routes.now.med.now order.now }
+    ensures late_rows { late.new ≡ rest_in true (length early.old) routes.now.router.now routes.now.asn.now routes.now.med.now order.now }
 {
-    let mut state = settle::unplaced();
-    let routers = ends.len();
-    rest_in(late, order, group, med, ends, &mut state[..routers], own);
-}
-
-// The early and the late rows at which the routers stand, where the contenders are listed in order, in the room that is lent.
-fn rest_rows(
-    router: &[u32],
-    asn: &[u32],
-    med: &[u32],
-    order: &[u16],
-    meds: &mut [u32],
-    group: &mut [u32],
-    ends: &mut [u32],
-    early: &mut [u16],
-    late: &mut [u16],
-)
-    requires inside { Inside (length router.now) order.now × (length asn.now ≡ length router.now) × (length med.now ≡ length router.now) × ((q : ℕ) → q < length router.now → column router.now q < length ends.old) }
-    requires meds_len { (length meds.old ≡ length order.now) × (length group.old ≡ length order.now) × (length early.old ≡ length ends.old) × (length late.old ≡ length ends.old) }
-    requires ready { Ready (groups_in asn.now order.now) (gathered med.now order.now) (counts_in router.now (length ends.old) order.now) }
-    ensures { (early.new ≡ rest_in false (length ends.old) router.now asn.now med.now order.now) × (late.new ≡ rest_in true (length ends.old) router.now asn.now med.now order.now) }
-{
-    contender::ends(router, order, ends);
-    rows::gather(med, order, meds);
-    group::groups(asn, order, group);
-    rest(false, order, group, meds, ends, early);
-    rest(true, order, group, meds, ends, late);
+    let mut group = rows::past();
+    let mut med = rows::past();
+    let mut ends = settle::unplaced();
+    let contenders = order.len();
+    let routers = early.len();
+    group::groups(routes.asn, order, &mut group[..contenders]);
+    rows::gather(routes.med, order, &mut med[..contenders]);
+    contender::ends(routes.router, order, &mut ends[..routers]);
+    let contest = Contest::new(&group[..contenders], &med[..contenders], &ends[..routers]);
+    rest_of(&contest, order, early, late);
 }
 
 // The rows of its own at which each router stands when the contest comes to rest: early and late.
-pub fn own_rows(
-    router: &[u32],
-    asn: &[u32],
-    preference: &[u32],
-    path: &[u32],
-    origin: &[u32],
-    med: &[u32],
-    nid: &[u32],
-    peer: &[u32],
-    early: &mut [u16],
-    late: &mut [u16],
-)
-    requires fits { Fits (length early.old) (columns router.now asn.now preference.now path.now origin.now med.now nid.now peer.now) }
+pub fn own_rows(routes: &Routes<'_>, early: &mut [u16], late: &mut [u16])
+    requires fits { Fits (length early.old) (columns_in routes.now) }
     requires late_len { length late.old ≡ length early.old }
-    ensures { RestRows (length early.old) (columns router.now asn.now preference.now path.now origin.now med.now nid.now peer.now) early.new late.new }
+    ensures { RestRows (length early.old) (columns_in routes.now) early.new late.new }
 {
     let mut list = rows::unlisted();
     let mut order = rows::unlisted();
-    let mut meds = rows::past();
-    let mut group = rows::past();
-    let mut ends = settle::unplaced();
-    let rows = router.len();
-    let routers = early.len();
+    let mut counts = settle::unplaced();
+    let rows = routes.router.len();
     let m = contender::contenders(
-        router,
-        asn,
-        preference,
-        path,
-        origin,
-        med,
-        nid,
-        peer,
-        &mut ends[..routers],
+        routes,
+        &mut counts[..early.len()],
         &mut list[..rows],
         &mut order[..rows],
     );
-    rest_rows(
-        router,
-        asn,
-        med,
-        &order[..m],
-        &mut meds[..m],
-        &mut group[..m],
-        &mut ends[..routers],
-        early,
-        late,
-    );
+    rest_rows(routes, &order[..m], early, late);
 }

@@ -1,13 +1,23 @@
--- Laws by which the loops of judging are proved: what a test that passed, or failed, says of the part that it judges.
-use Rattle.std.specs.Prelude.{ℕ, zero, suc, ◌+◌, ◌-◌, ◌^◌, ◌≤◌, ◌<◌, ◌≡◌, refl, Bool, true, false, not, ◌||◌, List, [], ◌∷◌, length, T, eqb, ltb}
-use Rattle.std.proofs.Common.{zero-le, arith, sym, ap, ◌∙◌, subst, true≢false, below_none, below_more, eq-eqb, ne_eqb, eqb-true, le-ltb, ltb-false, leb-false}
+-- Laws by which judging is proved: what a test that passed, or failed, says of the part that it judges.
+use Rattle.std.specs.Prelude.{ℕ, zero, suc, ◌+◌, ◌-◌, ◌^◌, ◌≤◌, ◌<◌, ◌≡◌, refl, Bool, true, false, not, ◌||◌, Option, List, [], ◌∷◌, length, T, eqb, ltb}
+use Rattle.std.proofs.Common.{zero-le, zero-add, arith, sym, ap, ◌∙◌, subst, true≢false, below_none, below_more, eq-eqb, ne_eqb, eqb-true, le-ltb, ltb-false, leb-false}
 use Rattle.std.proofs.lemmas.Bool.{false≢true, eqb-false, not-true, not-false}
+use denote.Param.Members.{Mut}
+use Rattle.std.proofs.iter.Yields.{nat_range_steps}
+use Rattle.std.proofs.lemmas.Iterator.{cases_from_all, YieldsList-from_range}
+use Rattle.std.specs.Bool.{MatchBool}
+use Rattle.std.specs.Fn.{Called}
+use Rattle.std.specs.Iterator.{YieldsThen}
+use Rattle.std.specs.Option.{MatchOption}
+use Rattle.std.specs.declared.ops.Range.{Range}
+use Rattle.std.specs.List.{FoldsTo, AllWithin, HoldsAt, range_with_len}
+use Rattle.std.proofs.lemmas.List.FromFn.{length-range_with_len, get_or-range_with_len}
 use Rattle.model.specs.Rows.{some, table, column, start}
 use Rattle.model.specs.Decision.{Route}
 use Rattle.model.proofs.RowLaws.{table_length, start_first, start_next, start_within, by, or_false, test_true}
 use Rattle.snapshot.specs.declared.Counts.{Counts}
-use Rattle.snapshot.specs.Limits.{most_routers, farthest, most_prefixes, most_in_prefix, most_routes, last_two_byte_asn, last_asn, longest_path, last_origin}
-use Rattle.snapshot.specs.Ranges.{none, any_of, count_tests, id_tests, prefix_tests, asn_tests, route_tests, rises, rises_route}
+use Rattle.snapshot.specs.Limits.{most_routers, farthest, most_in_prefix, last_two_byte_asn, last_asn, longest_path, last_origin}
+use Rattle.snapshot.specs.Ranges.{none, any_of, id_tests, prefix_tests, asn_tests, route_tests, rises, rises_route}
 use Rattle.snapshot.proofs.RangesLaws.{none_any, none_at}
 use Rattle.snapshot.specs.Records.{four_byte, route_form_by, route_forms, Fits}
 use Rattle.snapshot.specs.Format.{GoodId, GoodRoute, Each, latest, route_fields}
@@ -17,31 +27,28 @@ use Rattle.tables.specs.Judging.{route_at, routes_at, prefix_at, cell, late_at, 
 use Rattle.tables.specs.ListsLaws.{latest_table, each_below, below_each, none_table, table_none}
 use Rattle.tables.specs.PartsLaws.{cell_zero, cell_range, cell_good}
 
--- ---- a loop that judges each number below n in turn
-
--- those below i passed
-pub record SoFar (P : ℕ → Type 0) (n i : ℕ) : Type 0 where
-  pub within : i ≤ n
-  pub passed : Below i P
+-- ---- numbers below n, each judged
 
 pub decides_not : {P : Type 0} → (P → ⊥) → Decides P false
 decides_not f = record { yes = λ e. absurd (false≢true e); no = λ _. f }
 
-module _ {P : ℕ → Type 0} {n : ℕ} where
-  pub sofar : SoFar P n 0
-  sofar = record { within = zero-le; passed = below_none P }
+-- what `all` answers of the numbers below n, where the closure decides of each
+module _ {P : ℕ → Type 0} where
+  decides_each : (n : ℕ) (answer : Bool) → MatchBool answer (AllWithin P (range_with_len 0 n) 0 (length (range_with_len 0 n))) ((k : ℕ) × (k < length (range_with_len 0 n)) × HoldsAt (λ k. P k → ⊥) (range_with_len 0 n) k)
+      → Decides (Below n P) answer
+  decides_each n true all = record {
+    yes = λ _ k l. subst P (get_or-range_with_len 0 n k 0 l ∙ zero-add k) (all k 0 zero-le (omega (arith, length-range_with_len 0 n)));
+    no = λ e. absurd (true≢false e);
+  }
+  decides_each n false one =
+      decides_not (λ below. let l : one.0 < n = omega (arith, length-range_with_len 0 n, one.1) in one.2 0 (subst P (sym (get_or-range_with_len 0 n one.0 0 l ∙ zero-add one.0)) (below one.0 l)))
 
-  pub sofar_next : {i : ℕ} → SoFar P n i → i < n → P i → SoFar P n (i + 1)
-  sofar_next {i} s l p = record { within = omega arith; passed = below_more P i s.passed p }
-
-  pub sofar_all : {i : ℕ} → SoFar P n i → n ≤ i → Below n P
-  sofar_all s l k m = s.passed k (omega arith)
-
-  pub sofar_end : {i : ℕ} → SoFar P n i → n ≤ i → Decides (Below n P) true
-  sofar_end s l = record { yes = λ _. sofar_all s l; no = λ e. absurd (true≢false e) }
-
-  pub sofar_not : {i : ℕ} → i < n → (P i → ⊥) → Decides (Below n P) false
-  sofar_not {i} l f = decides_not (λ h. f (h i l))
+  pub all_decides : {F : Type 0} {g : Mut F (ℕ × Unit {0}) Bool} {f : F} {u : Range ℕ} (n : ℕ) {answer : Bool}
+      → (xs : List ℕ) × (o : Option ℕ) × (j : F) × YieldsThen nat_range_steps (record { start = 0; end = n }) xs o u × FoldsTo (λ p x q. Called g p (x, tt) true q) f xs j × MatchOption o (answer ≡ true) (λ x. (answer ≡ false) × ((h : F) × Called g j (x, tt) false h))
+      → ((k : ℕ) (q : F) → Called g f (k, tt) true q → (q ≡ f) × P k) → ((k : ℕ) (q : F) → Called g f (k, tt) false q → P k → ⊥)
+      → Decides (Below n P) answer
+  all_decides n {answer} ran on out =
+      decides_each n answer (cases_from_all _ _ _ P (λ k. P k → ⊥) ran (YieldsList-from_range 0 n n refl (omega arith)) on out)
 
 -- ---- tests
 
@@ -58,30 +65,6 @@ tests_good bs e h = none_any bs (sym e ∙ h)
 
 -- ---- counts
 
-module _ (counts : Counts) {bad : Bool} (e : bad ≡ any_of (count_tests counts.routers)) where
-  abbrev many : Bool
-  many = bad || ltb most_prefixes counts.prefixes || ltb most_routes counts.routes
-
-  counts_good : many ≡ false → InRange counts
-  counts_good h =
-      let (o, z) = or_false (bad || ltb most_prefixes counts.prefixes) (ltb most_routes counts.routes) h in
-      let (x, y) = or_false bad (ltb most_prefixes counts.prefixes) o in
-      record {
-        routers = tests_good (count_tests counts.routers) e x;
-        prefixes = ltb-false most_prefixes counts.prefixes y;
-        routes = ltb-false most_routes counts.routes z;
-      }
-
-  counts_bad : many ≡ true → InRange counts → ⊥
-  counts_bad h range =
-      let x : bad ≡ false = e ∙ off (any_of (count_tests counts.routers)) range.routers in
-      let y = le-ltb most_prefixes counts.prefixes range.prefixes in
-      let z = le-ltb most_routes counts.routes range.routes in
-      false≢true (sym (rw (x, y, z)) ∙ h)
-
-  pub counts_judged : Decides (InRange counts) (not many)
-  counts_judged = record { yes = λ a. counts_good (not-true many a); no = λ a. counts_bad (not-false many a) }
-
 -- so many routers have room
 pub few_routers : {counts : Counts} → InRange counts → counts.routers ≤ most_routers
 few_routers {counts} range = (count_range counts.routers range.routers).1
@@ -89,16 +72,19 @@ few_routers {counts} range = (count_range counts.routers range.routers).1
 -- ---- ids
 
 module _ (before : List ℕ) (id : ℕ) {bad twin : Bool} (e : bad ≡ any_of (id_tests id)) (f : twin ≡ some (eqb id) before) where
-  pub id_good : id < 256 ^ 4 → (bad || twin) ≡ false → GoodId before id
+  id_good : id < 256 ^ 4 → (bad || twin) ≡ false → GoodId before id
   id_good fits h =
       let (x, y) = or_false bad twin h in
       record { fits = fits; ranges = tests_good (id_tests id) e x; alone = off_yes (sym f ∙ y) }
 
-  pub id_bad : (bad || twin) ≡ true → GoodId before id → ⊥
+  id_bad : (bad || twin) ≡ true → GoodId before id → ⊥
   id_bad h good =
       let x : bad ≡ false = e ∙ off (any_of (id_tests id)) good.ranges in
       let y : twin ≡ false = f ∙ off (some (eqb id) before) good.alone in
       false≢true (sym (rw (x, y)) ∙ h)
+
+  pub id_decides : id < 256 ^ 4 → Decides (GoodId before id) (not (bad || twin))
+  id_decides fits = record { yes = λ a. id_good fits (not-true (bad || twin) a); no = λ a. id_bad (not-false (bad || twin) a) }
 
 -- ---- distances
 
@@ -172,17 +158,20 @@ module _ (n : ℕ) (c : Columns) (at k : ℕ) (r : Route) {bad late : Bool} (is 
   tested : bad ≡ any_of (route_tests n (route_at c (at + k)))
   tested = e ∙ ap (λ (r : Route). any_of (route_tests n r)) is
 
-  pub route_good : n ≤ most_routers → Words (route_at c (at + k)) → (bad || late) ≡ false → RouteGood n c at k
+  route_good : n ≤ most_routers → Words (route_at c (at + k)) → (bad || late) ≡ false → RouteGood n c at k
   route_good few words h =
       let (x, y) = or_false bad late h in
       let ranges = tests_good (route_tests n (route_at c (at + k))) tested x in
       record { fits = route_fits n (route_at c (at + k)) few ranges words; obeys = (ranges, (not_off rising above y, tt)) }
 
-  pub route_bad : (bad || late) ≡ true → RouteGood n c at k → ⊥
+  route_bad : (bad || late) ≡ true → RouteGood n c at k → ⊥
   route_bad h good =
       let x : bad ≡ false = tested ∙ off (any_of (route_tests n (route_at c (at + k)))) good.obeys.0 in
       let y : late ≡ false = not_on rising above good.obeys.1.0 in
       false≢true (sym (rw (x, y)) ∙ h)
+
+  pub route_decides : n ≤ most_routers → Words (route_at c (at + k)) → Decides (RouteGood n c at k) (not (bad || late))
+  route_decides few words = record { yes = λ a. route_good few words (not-true (bad || late) a); no = λ a. route_bad (not-false (bad || late) a) }
 
 -- ---- prefixes
 
@@ -234,13 +223,13 @@ module _ (n : ℕ) (t : Tables) (p at : ℕ) {bad late : Bool} (here : at ≡ st
 
 -- those below p passed, and their routes end at `at`
 pub record Counting (counts : Counts) (t : Tables) (p at : ℕ) : Type 0 where
-  pub passed : SoFar (PrefixGood counts.routers t) counts.prefixes p
+  pub passed : Below p (PrefixGood counts.routers t)
   pub here : at ≡ start t.routes p
   pub within : at ≤ counts.routes
 
 module _ {counts : Counts} {t : Tables} where
   pub counting : Counting counts t 0 0
-  counting = record { passed = sofar; here = sym (start_first t.routes); within = zero-le }
+  counting = record { passed = below_none (PrefixGood counts.routers t); here = sym (start_first t.routes); within = zero-le }
 
   module _ {p at : ℕ} (c : Counting counts t p at) where
     module _ (l : p < counts.prefixes) where
@@ -248,7 +237,7 @@ module _ {counts : Counts} {t : Tables} where
       counting_next e m good =
           let h = c.here in
           let s = start_next t.routes p in
-          record { passed = sofar_next c.passed l good; here = omega arith; within = m }
+          record { passed = below_more (PrefixGood counts.routers t) p c.passed good; here = omega arith; within = m }
 
       pub counting_over : counts.routes < at + column t.routes p → Decides (Totalled counts t) false
       counting_over m =
@@ -259,11 +248,10 @@ module _ {counts : Counts} {t : Tables} where
       pub counting_not : (PrefixGood counts.routers t p → ⊥) → Decides (Totalled counts t) false
       counting_not f = decides_not (λ total. f (total.0 p l))
 
-    pub counting_end : counts.prefixes ≤ p → Decides (Totalled counts t) (eqb at counts.routes)
-    counting_end l =
-        let w = c.passed.within in
-        let sum : at ≡ start t.routes counts.prefixes = c.here ∙ ap (start t.routes) (let e : p ≡ counts.prefixes = omega arith in e) in
+    pub counting_end : p ≡ counts.prefixes → Decides (Totalled counts t) (eqb at counts.routes)
+    counting_end e =
+        let sum : at ≡ start t.routes counts.prefixes = c.here ∙ ap (start t.routes) e in
         record {
-          yes = λ e. (sofar_all c.passed l, sym sum ∙ eqb-true at counts.routes e);
-          no = λ e total. eqb-false at counts.routes e (sum ∙ total.1);
+          yes = λ a. (subst (λ (n : ℕ). Below n (PrefixGood counts.routers t)) e c.passed, sym sum ∙ eqb-true at counts.routes a);
+          no = λ a total. eqb-false at counts.routes a (sum ∙ total.1);
         }

@@ -1,5 +1,6 @@
 -- Judging tables: the only snapshot that counts and tables can hold, and what a judgement says of them.
-use Rattle.std.specs.Prelude.{ℕ, ◌+◌, ◌-◌, ◌*◌, ◌≤◌, ◌<◌, ◌≡◌, Bool, true, false, cond, not, ◌&&◌, List, ◌∷◌, map, T, eqb}
+use Rattle.std.specs.Prelude.{ℕ, ◌+◌, ◌-◌, ◌*◌, ◌≤◌, ◌<◌, ◌≡◌, Bool, true, false, cond, not, ◌&&◌, List, ◌∷◌, map, T, eqb, Result, Ok, Err}
+use Rattle.refusal.specs.declared.Refusal.{Refusal}
 use Rattle.refusal.specs.declared.Refusal.TheVariants as refusal
 use Rattle.refusal.specs.Numbers.{number_of}
 use Rattle.model.specs.Rows.{table, column, start}
@@ -9,8 +10,6 @@ use Rattle.snapshot.specs.Limits.{stride, most_prefixes, most_routes}
 use Rattle.snapshot.specs.Ranges.{any_of, none, count_tests, distance_tests, rises}
 use Rattle.snapshot.specs.Format.{Prefix, Snapshot, pairs, GoodId, GoodRoute, GoodPrefix, Valid}
 use Rattle.snapshot.specs.Tables.{Columns, Tables, short, Held}
-use Rattle.tables.specs.declared.Verdict.{Verdict}
-use Rattle.tables.specs.declared.Verdict.TheVariants.{Good, Refused}
 
 -- ---- the only snapshot that they can hold
 
@@ -117,10 +116,10 @@ Judged counts t answer = Decides (Holding counts t) answer
 
 -- ---- verdicts
 
--- document 01's number for a verdict: 0, or that of the refusal
-abbrev pub numbered : Verdict → ℕ
-numbered Good = 0
-numbered (Refused r) = number_of r
+-- the number for a verdict: 0, or that of the refusal
+abbrev pub numbered : Result Unit Refusal → ℕ
+numbered (Ok _) = 0
+numbered (Err r) = number_of r
 
 -- the number that counts and tables are given
 pub data Verdicts (counts : Counts) (t : Tables) : ℕ → Type 0 where

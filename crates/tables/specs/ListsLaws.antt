@@ -5,8 +5,15 @@ use Rattle.std.proofs.lemmas.Bool.{false≢true}
 use Rattle.std.proofs.Math.ListN.{get_or-append}
 use Rattle.std.proofs.lemmas.List.Edits.{sets}
 use Rattle.std.proofs.Math.Seq.{length-sets, drop-append_seam}
+use denote.Param.Members.{Mut}
+use denote.Ref.{Bor}
+use Rattle.std.specs.Fn.{Called}
+use Rattle.std.specs.Iterator.{Drains}
+use Rattle.std.specs.declared.slice.Iter.{Iter}
+use Rattle.std.specs.List.{FoldsTo}
+use Rattle.std.proofs.lemmas.Fn.{fold_over, fronts, slice_gives}
 use Rattle.model.specs.Rows.{some, span, table, column}
-use Rattle.model.proofs.RowLaws.{table_length, table_at, table_same, by, table_snoc}
+use Rattle.model.proofs.RowLaws.{table_length, table_at, table_same, by, some_snoc, table_snoc}
 use Rattle.model.proofs.ColumnLaws.{sets_front}
 use Rattle.snapshot.specs.Format.{Each, latest}
 use Rattle.snapshot.proofs.ChecksLaws.{latest_snoc}
@@ -98,6 +105,17 @@ module _ (test : ℕ → Bool) (f : ℕ → ℕ) where
 
   pub table_none : (n : ℕ) → some test (table n f) ≡ false → Below n (λ k. test (f k) ≡ false)
   table_none n e k l = by (test (f k)) (λ t. absurd (false≢true (sym e ∙ some_table n k l t))) (λ t. t)
+
+-- what a fold answers that looks at every member
+module _ {F : Type 0} {g : Mut F (Bool × (Bor ℕ × Unit {0})) Bool} {f : F} where
+  pub some_over : (test : ℕ → Bool) (s : Iter ℕ) {answer : Bool}
+      → (xs : List (Bor ℕ)) × (h : F) × Drains fronts s xs × FoldsTo {P = F × Bool} (λ p x q. Called g p.0 (p.1, (x, tt)) q.1 q.0) (f, false) xs (h, answer)
+      → ((found : Bool) (x : Bor ℕ) (next : Bool) (h : F) → Called g f (found, (x, tt)) next h → (next ≡ (found || test x.now)) × (h ≡ f))
+      → answer ≡ some test s.rest.now
+  some_over test s ran step =
+      fold_over fronts (λ x. x.now) g (λ xs found. found ≡ some test xs) f
+      (λ xs found x next h so called. let (e, same) = step found x next h called in (e ∙ ap (λ (b : Bool). b || test x.now) so ∙ sym (some_snoc test xs x.now), same))
+      s s.rest.now false _ (slice_gives s) refl ran
 
 -- ---- a list that stands at the front of another
 

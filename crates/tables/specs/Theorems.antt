@@ -1,11 +1,13 @@
 -- What is proved of counts and tables that hold a snapshot: they hold one, its parts stand in their rows, and its prefixes are sound;
 -- and that a verdict is determined.
-use Rattle.std.specs.Prelude.{ℕ, suc, ◌+◌, ◌≤◌, ◌<◌, ◌≡◌, refl, ◌⊎◌, ◌&&◌, List, [], map, length, get_or, take, drop, T, eqb, ltb}
+use Rattle.std.specs.Prelude.{ℕ, suc, ◌+◌, ◌≤◌, ◌<◌, ◌≡◌, refl, ◌⊎◌, ◌&&◌, List, [], map, length, get_or, take, drop, T, eqb, ltb, Result, Ok, Err}
 use Rattle.std.proofs.Common.{arith, sym, ap, ◌∙◌, subst, inl, inr, ⊎_elim, leb-false, eq-eqb}
 use Rattle.std.proofs.Math.Path.{fun_ext}
 use Rattle.std.proofs.lemmas.Simd.{map-map}
 use Rattle.std.proofs.lemmas.Bool.{eqb-false}
 use Rattle.std.proofs.Math.Facts.{or_yes, and_yes, ltb_yes, eqb_yes, T_not}
+use Rattle.std.specs.Result.{MatchResult, IsErrAnd}
+use Rattle.refusal.specs.declared.Refused.{Refused}
 use Rattle.refusal.specs.declared.Refusal.{Refusal}
 use Rattle.refusal.specs.declared.Refusal.TheVariants as refusal
 use Rattle.refusal.specs.Numbers.{number_of}
@@ -22,8 +24,6 @@ use Rattle.snapshot.proofs.RangesLaws.{none_at}
 use Rattle.snapshot.specs.Format.{Prefix, Snapshot, Each, GoodId, GoodRoute, GoodPrefix, distance, Valid}
 use Rattle.snapshot.specs.Tables.{Tables, short, Held, routes_of, mesh, Room}
 use Rattle.snapshot.proofs.ChecksLaws.{routers_few}
-use Rattle.tables.specs.declared.Verdict.{Verdict}
-use Rattle.tables.specs.declared.Verdict.TheVariants.{Good, Refused}
 use Rattle.tables.specs.Judging as judging
 use Rattle.tables.specs.Judging.{route_at, routes_at, prefix_at, cell, Holding, numbered, Verdicts}
 use Rattle.tables.specs.ListsLaws.{map_at, as_table, each_below, latest_table, table_none, table_part, table_take}
@@ -38,11 +38,11 @@ held_one room v h w k = held_is room v h ∙ sym (held_is room w k)
 -- ---- verdicts
 
 -- a number tells its verdict
-numbered_tells : (v w : Verdict) → numbered v ≡ numbered w → v ≡ w
-numbered_tells Good Good e = refl
-numbered_tells Good (Refused r) e = absurd (omega (arith, e, (number_range r).0))
-numbered_tells (Refused r) Good e = absurd (omega (arith, e, (number_range r).0))
-numbered_tells (Refused r) (Refused q) e = ap Refused (number_tells r q e)
+numbered_tells : (v w : Result Unit Refusal) → numbered v ≡ numbered w → v ≡ w
+numbered_tells (Ok _) (Ok _) e = refl
+numbered_tells (Ok _) (Err r) e = absurd (omega (arith, e, (number_range r).0))
+numbered_tells (Err r) (Ok _) e = absurd (omega (arith, e, (number_range r).0))
+numbered_tells (Err r) (Err q) e = ap Err (number_tells r q e)
 
 module _ {counts : Counts} {t : Tables} where
   one_number : {n m : ℕ} → Verdicts counts t n → Verdicts counts t m → n ≡ m
@@ -57,7 +57,7 @@ module _ {counts : Counts} {t : Tables} where
   one_number (judging.held h g) (judging.held k i) = refl
 
   -- any two verdicts on the same counts and tables are one
-  pub verdicts_one : (v w : Verdict) → Verdicts counts t (numbered v) → Verdicts counts t (numbered w) → v ≡ w
+  pub verdicts_one : (v w : Result Unit Refusal) → Verdicts counts t (numbered v) → Verdicts counts t (numbered w) → v ≡ w
   verdicts_one v w h k = numbered_tells v w (one_number h k)
 
   -- a good one: there is room, and a snapshot
@@ -72,6 +72,25 @@ module _ {counts : Counts} {t : Tables} where
   verdict_refused (judging.room h) r e = inl (number_tells r refusal.Room (sym e), h)
   verdict_refused (judging.unheld h f) r e = inr (number_tells r refusal.Table (sym e), h, f)
   verdict_refused (judging.held h g) r e = absurd (omega (arith, e, (number_range r).0))
+
+-- a verdict whose refusal is given place 0
+pub record Placed (v : Result Unit Refusal) (w : Result Unit Refused) : Type 0 where
+  pub same : MatchResult v (λ x. w ≡ Ok x) (λ e. IsErrAnd w (λ r. r ≡ record { refusal = e; place = 0 }))
+
+module _ {w : Result Unit Refused} where
+  pub placed_err : {v : Result Unit Refusal} {r : Refused} → Placed v w → w ≡ Err r → (e : Refusal) × (v ≡ Err e) × (r ≡ record { refusal = e; place = 0 })
+  placed_err {v} {r} p e = go v p.same
+    where
+      go : (v : Result Unit Refusal) → MatchResult v (λ x. w ≡ Ok x) (λ e. IsErrAnd w (λ r. r ≡ record { refusal = e; place = 0 })) → (e : Refusal) × (v ≡ Err e) × (r ≡ record { refusal = e; place = 0 })
+      go (Ok x) h = cc
+      go (Err x) h = (x, refl, rw e at h)
+
+  pub placed_ok : {v : Result Unit Refusal} → Placed v w → w ≡ Ok tt → v ≡ Ok tt
+  placed_ok {v} p e = go v p.same
+    where
+      go : (v : Result Unit Refusal) → MatchResult v (λ x. w ≡ Ok x) (λ e. IsErrAnd w (λ r. r ≡ record { refusal = e; place = 0 })) → v ≡ Ok tt
+      go (Ok x) h = refl
+      go (Err x) h = absurd (rw e at h)
 
 -- ---- where the parts of a snapshot that is held stand
 

@@ -3,21 +3,18 @@
 #![tactic(auto)]
 
 ghost use Rattle.std.specs.Prelude.{◌≡◌, ◌+◌, ◌≤◌, ◌<◌, length, eqb, ltb};
-ghost use Rattle.model.specs.Rows.{some, table, column, start};
+ghost use Rattle.model.specs.Rows.{some, column, start};
 ghost use Rattle.snapshot.specs.Limits.{most_routers, room_distances, farthest, most_prefixes, most_routes};
 ghost use Rattle.snapshot.specs.Plain.{route_is};
-ghost use Rattle.snapshot.specs.Tables.{columns, tables, prefix_tables, RoomPrefixes, Room, Wide};
+ghost use Rattle.snapshot.specs.Tables.{RoomPrefixes, Room, Wide};
+ghost use Rattle.snapshot.specs.Lent.{columns_of, tables_of};
 ghost use Rattle.tables.specs.Judging.{route_at, late_at, IdGood, CellGood, RouteGood, PrefixGood, Below, InRange, Totalled, Decides, Judged, numbered, Verdicts};
 
-// What is found of counts and tables: they hold a snapshot, or a refusal.
-#[derive(Clone, Copy)]
-pub enum Verdict {
-    Good,
-    Refused(refusal::Refusal),
-}
+use refusal::Refusal;
+use snapshot::{Columns, Counts, Route, Tables};
 
 // Whether counts are in their ranges.
-fn counts_good(counts: snapshot::Counts) -> bool
+fn counts_good(counts: Counts) -> bool
     ensures { Decides (InRange counts) result }
 {
     !(snapshot::count_bad(counts.routers)
@@ -25,18 +22,21 @@ fn counts_good(counts: snapshot::Counts) -> bool
         | (snapshot::MOST_ROUTES < counts.routes))
 }
 
-// Whether an id is one of the first k. The loop is not left at the first that is found: so several are looked at in one step.
-fn twin(ids: &[u32], k: usize, id: u32) -> bool
-    requires { k ≤ length ids.now }
-    ensures { result ≡ some (eqb id) (table k (column ids.now)) }
+// Whether an id is one of these. All are looked at, so that several are looked at in one step.
+fn twin(ids: &[u32], id: u32) -> bool
+    ensures { result ≡ some (eqb id) ids.now }
 {
-    let mut found = false;
-    let mut i = 0;
-    while i < k {
-        found = found | (id == ids[i]);
-        i += 1;
-    }
-    found
+    ids.iter()
+        .fold(false, |found, other| found | (id == *other))
+}
+
+// Whether the id of a router is in its range, and none of the routers before it has it.
+fn id_good(ids: &[u32], k: usize) -> bool
+    requires { k < length ids.now }
+    ensures { Decides (IdGood ids.now k) result }
+{
+    let id = ids[k];
+    !(snapshot::id_bad(id) | twin(&ids[..k], id))
 }
 
 // Whether the ids of n routers are in their range, each given once.
@@ -44,29 +44,17 @@ fn ids_good(n: usize, ids: &[u32]) -> bool
     requires { n ≤ length ids.now }
     ensures { Decides (Below n (IdGood ids.now)) result }
 {
-    let mut k = 0;
-    while k < n {
-        let id = ids[k];
-        if snapshot::id_bad(id) | twin(ids, k, id) {
-            return false;
-        }
-        k += 1;
-    }
-    true
+    (0..n).all(|k| id_good(ids, k))
 }
 
-// Whether one of n distances from a cell on is outside its range. The loop is not left at the first: so several are looked at in one step.
-fn far(n: usize, distances: &[u32], first: usize) -> bool
-    requires { first + n ≤ length distances.now }
-    ensures { result ≡ some (ltb farthest) (table n (λ k. column distances.now (first + k))) }
+// Whether one of these distances is outside its range. All are looked at, so that several are looked at in one step.
+fn far(distances: &[u32]) -> bool
+    ensures { result ≡ some (ltb farthest) distances.now }
 {
-    let mut found = false;
-    let mut i = 0;
-    while i < n {
-        found = found | snapshot::distance_bad(distances[first + i]);
-        i += 1;
-    }
-    found
+    distances.iter().fold(
+        false,
+        |found, distance| found | snapshot::distance_bad(*distance),
+    )
 }
 
 // Whether the distances from one router are in their range, and that to itself is 0.
@@ -75,7 +63,7 @@ fn row_good(n: usize, distances: &[u32], from: usize) -> bool
     ensures { Decides (Below n (CellGood distances.now from)) result }
 {
     let first = from * snapshot::STRIDE;
-    !((distances[first + from] != 0) | far(n, distances, first))
+    !((distances[first + from] != 0) | far(&distances[first..first + n]))
 }
 
 // Whether the distances between n routers are in their range.
@@ -83,14 +71,7 @@ fn distances_good(n: usize, distances: &[u32]) -> bool
     requires { (n ≤ most_routers) × (room_distances ≤ length distances.now) }
     ensures { Decides (Below n (λ from. Below n (CellGood distances.now from))) result }
 {
-    let mut from = 0;
-    while from < n {
-        if !row_good(n, distances, from) {
-            return false;
-        }
-        from += 1;
-    }
-    true
+    (0..n).all(|from| row_good(n, distances, from))
 }
 
 // Whether a row of two columns does not rise above the row before it. The first row has none before it.
@@ -105,248 +86,95 @@ fn late_at(a: &[u32], b: &[u32], first: usize, row: usize) -> bool
 }
 
 // The route in a row of the columns.
-pub fn route_at(
-    router: &[u32],
-    asn: &[u32],
-    preference: &[u32],
-    path: &[u32],
-    origin: &[u32],
-    mark: &[u32],
-    med: &[u32],
-    nid: &[u32],
-    peer: &[u32],
-    row: usize,
-) -> snapshot::Route
-    requires { (row < most_routes) × Wide most_routes (columns router.now asn.now preference.now path.now origin.now mark.now med.now nid.now peer.now) }
-    ensures { route_is result ≡ route_at (columns router.now asn.now preference.now path.now origin.now mark.now med.now nid.now peer.now) row }
+pub fn route_at(rows: &Columns<'_>, row: usize) -> Route
+    requires { (row < most_routes) × Wide most_routes (columns_of rows.now) }
+    ensures { route_is result ≡ route_at (columns_of rows.now) row }
 {
-    snapshot::Route {
-        router: router[row],
-        asn: asn[row],
-        preference: preference[row],
-        path: path[row],
-        origin: origin[row],
-        mark: mark[row],
-        med: med[row],
-        nid: nid[row],
-        peer: peer[row],
+    Route {
+        router: rows.router[row],
+        asn: rows.asn[row],
+        preference: rows.preference[row],
+        path: rows.path[row],
+        origin: rows.origin[row],
+        mark: rows.mark[row],
+        med: rows.med[row],
+        nid: rows.nid[row],
+        peer: rows.peer[row],
     }
+}
+
+// Whether the k-th route from a row on is in its ranges, and rises above the one before it. The first has none before it.
+fn route_good(routers: u32, rows: &Columns<'_>, at: usize, k: usize) -> bool
+    requires { (routers ≤ most_routers) × (at + k < most_routes) × Wide most_routes (columns_of rows.now) }
+    ensures { Decides (RouteGood routers (columns_of rows.now) at k) result }
+{
+    let route = route_at(rows, at + k);
+    !(snapshot::route_bad(routers, route) | late_at(rows.router, rows.peer, at, at + k))
 }
 
 // Whether so many routes from a row on are in their ranges, and rise.
-fn routes_good(
-    routers: u32,
-    router: &[u32],
-    asn: &[u32],
-    preference: &[u32],
-    path: &[u32],
-    origin: &[u32],
-    mark: &[u32],
-    med: &[u32],
-    nid: &[u32],
-    peer: &[u32],
-    at: usize,
-    count: usize,
-) -> bool
-    requires { (routers ≤ most_routers) × (at + count ≤ most_routes) × Wide most_routes (columns router.now asn.now preference.now path.now origin.now mark.now med.now nid.now peer.now) }
-    ensures { Decides (Below count (RouteGood routers (columns router.now asn.now preference.now path.now origin.now mark.now med.now nid.now peer.now) at)) result }
+fn routes_good(routers: u32, rows: &Columns<'_>, at: usize, count: usize) -> bool
+    requires { (routers ≤ most_routers) × (at + count ≤ most_routes) × Wide most_routes (columns_of rows.now) }
+    ensures { Decides (Below count (RouteGood routers (columns_of rows.now) at)) result }
 {
-    let mut k = 0;
-    while k < count {
-        let r = route_at(
-            router,
-            asn,
-            preference,
-            path,
-            origin,
-            mark,
-            med,
-            nid,
-            peer,
-            at + k,
-        );
-        if snapshot::route_bad(routers, r) | late_at(router, peer, at, at + k) {
-            return false;
-        }
-        k += 1;
-    }
-    true
+    (0..count).all(|k| route_good(routers, rows, at, k))
 }
 
 // Whether a prefix is in its ranges and rises, with its routes, which start at a row.
-fn prefix_good(
-    routers: u32,
-    address: &[u32],
-    bits: &[u32],
-    routes: &[u32],
-    router: &[u32],
-    asn: &[u32],
-    preference: &[u32],
-    path: &[u32],
-    origin: &[u32],
-    mark: &[u32],
-    med: &[u32],
-    nid: &[u32],
-    peer: &[u32],
-    p: usize,
-    at: usize,
-) -> bool
-    requires { (routers ≤ most_routers) × (p < most_prefixes) × (at + column routes.now p ≤ most_routes) × (at ≡ start routes.now p)
-        × RoomPrefixes (prefix_tables address.now bits.now routes.now (columns router.now asn.now preference.now path.now origin.now mark.now med.now nid.now peer.now)) }
-    ensures { Decides (PrefixGood routers (prefix_tables address.now bits.now routes.now (columns router.now asn.now preference.now path.now origin.now mark.now med.now nid.now peer.now)) p) result }
+fn prefix_good(routers: u32, tables: &Tables<'_>, p: usize, at: usize) -> bool
+    requires { (routers ≤ most_routers) × (p < most_prefixes) × (at + column tables.now.routes.now p ≤ most_routes)
+        × (at ≡ start tables.now.routes.now p) × RoomPrefixes (tables_of tables.now) }
+    ensures { Decides (PrefixGood routers (tables_of tables.now) p) result }
 {
-    let count = routes[p];
+    let count = tables.routes[p];
     if (snapshot::MOST_IN_PREFIX < count)
-        | snapshot::prefix_bad(address[p], bits[p])
-        | late_at(address, bits, 0, p)
+        | snapshot::prefix_bad(tables.address[p], tables.bits[p])
+        | late_at(tables.address, tables.bits, 0, p)
     {
         return false;
     }
-    routes_good(
-        routers,
-        router,
-        asn,
-        preference,
-        path,
-        origin,
-        mark,
-        med,
-        nid,
-        peer,
-        at,
-        count as usize,
-    )
+    routes_good(routers, &tables.rows, at, count as usize)
 }
 
 // Whether the prefixes are in their ranges and rise, with their routes, and their numbers of routes add up.
-fn prefixes_good(
-    counts: snapshot::Counts,
-    address: &[u32],
-    bits: &[u32],
-    routes: &[u32],
-    router: &[u32],
-    asn: &[u32],
-    preference: &[u32],
-    path: &[u32],
-    origin: &[u32],
-    mark: &[u32],
-    med: &[u32],
-    nid: &[u32],
-    peer: &[u32],
-) -> bool
-    requires { InRange counts × RoomPrefixes (prefix_tables address.now bits.now routes.now (columns router.now asn.now preference.now path.now origin.now mark.now med.now nid.now peer.now)) }
-    ensures { Decides (Totalled counts (prefix_tables address.now bits.now routes.now (columns router.now asn.now preference.now path.now origin.now mark.now med.now nid.now peer.now))) result }
+fn prefixes_good(counts: Counts, tables: &Tables<'_>) -> bool
+    requires { InRange counts × RoomPrefixes (tables_of tables.now) }
+    ensures { Decides (Totalled counts (tables_of tables.now)) result }
 {
     let mut at = 0;
-    let mut p = 0;
-    while p < counts.prefixes as usize {
-        let next = at + routes[p] as usize;
+    for p in 0..counts.prefixes as usize {
+        let next = at + tables.routes[p] as usize;
         if (counts.routes as usize) < next {
             return false;
         }
-        if !prefix_good(
-            counts.routers,
-            address,
-            bits,
-            routes,
-            router,
-            asn,
-            preference,
-            path,
-            origin,
-            mark,
-            med,
-            nid,
-            peer,
-            p,
-            at,
-        ) {
+        if !prefix_good(counts.routers, tables, p, at) {
             return false;
         }
         at = next;
-        p += 1;
     }
     at == counts.routes as usize
 }
 
 // Whether counts and tables are those of some snapshot.
-fn judge(
-    counts: snapshot::Counts,
-    ids: &[u32],
-    distances: &[u32],
-    address: &[u32],
-    bits: &[u32],
-    routes: &[u32],
-    router: &[u32],
-    asn: &[u32],
-    preference: &[u32],
-    path: &[u32],
-    origin: &[u32],
-    mark: &[u32],
-    med: &[u32],
-    nid: &[u32],
-    peer: &[u32],
-) -> bool
-    requires { Room (tables ids.now distances.now address.now bits.now routes.now (columns router.now asn.now preference.now path.now origin.now mark.now med.now nid.now peer.now)) }
-    ensures { Judged counts (tables ids.now distances.now address.now bits.now routes.now (columns router.now asn.now preference.now path.now origin.now mark.now med.now nid.now peer.now)) result }
+fn judge(counts: Counts, tables: &Tables<'_>) -> bool
+    requires { Room (tables_of tables.now) }
+    ensures { Judged counts (tables_of tables.now) result }
 {
-    if !counts_good(counts) {
-        return false;
-    }
-    if !ids_good(counts.routers as usize, ids) {
-        return false;
-    }
-    if !distances_good(counts.routers as usize, distances) {
-        return false;
-    }
-    prefixes_good(
-        counts, address, bits, routes, router, asn, preference, path, origin, mark, med, nid, peer,
-    )
+    counts_good(counts)
+        && ids_good(counts.routers as usize, tables.ids)
+        && distances_good(counts.routers as usize, tables.distances)
+        && prefixes_good(counts, tables)
 }
 
 // The checks of tables that writing and the forecast begin with: ROOM, then TABLE.
-pub fn examine(
-    counts: snapshot::Counts,
-    ids: &[u32],
-    distances: &[u32],
-    address: &[u32],
-    bits: &[u32],
-    routes: &[u32],
-    router: &[u32],
-    asn: &[u32],
-    preference: &[u32],
-    path: &[u32],
-    origin: &[u32],
-    mark: &[u32],
-    med: &[u32],
-    nid: &[u32],
-    peer: &[u32],
-) -> Verdict
-    ensures { Verdicts counts (tables ids.now distances.now address.now bits.now routes.now (columns router.now asn.now preference.now path.now origin.now mark.now med.now nid.now peer.now)) (numbered result) }
+pub fn examine(counts: Counts, tables: &Tables<'_>) -> Result<(), Refusal>
+    ensures { Verdicts counts (tables_of tables.now) (numbered result) }
 {
-    if snapshot::lacks_room(
-        ids.len(),
-        distances.len(),
-        address.len(),
-        bits.len(),
-        routes.len(),
-        router.len(),
-        asn.len(),
-        preference.len(),
-        path.len(),
-        origin.len(),
-        mark.len(),
-        med.len(),
-        nid.len(),
-        peer.len(),
-    ) {
-        return Verdict::Refused(refusal::Refusal::Room);
+    if tables.lacks_room() {
+        return Err(Refusal::Room);
     }
-    if !judge(
-        counts, ids, distances, address, bits, routes, router, asn, preference, path, origin, mark,
-        med, nid, peer,
-    ) {
-        return Verdict::Refused(refusal::Refusal::Table);
+    if !judge(counts, tables) {
+        return Err(Refusal::Table);
     }
-    Verdict::Good
+    Ok(())
 }

@@ -1,8 +1,9 @@
 -- Words and numbers as bytes, and what is left of a buffer into which they are put.
-use Rattle.std.specs.Prelude.{ℕ, zero, suc, ◌+◌, ◌/◌, ◌%◌, ◌^◌, ◌≡◌, cond, List, [], ◌∷◌, ◌++◌, ltb, length}
+use Rattle.std.specs.Prelude.{ℕ, zero, suc, ◌+◌, ◌/◌, ◌%◌, ◌^◌, ◌≤◌, ◌≡◌, cond, List, [], ◌∷◌, ◌++◌, ltb, length}
 use Prim.Native.Char.{code}
 use Prim.Native.String as string
 use Rattle.std.proofs.lemmas.List.Edits.{sets}
+use Rattle.text.specs.declared.Sink.{Sink}
 
 -- the bytes of a word
 abbrev pub ascii : string.String → List ℕ
@@ -32,7 +33,18 @@ abbrev pub each : (ℕ → List ℕ) → List ℕ → List ℕ
 each text [] = []
 each text (r ∷ rs) = text r ++ each text rs
 
--- a text was put into a buffer from a place on; `end` is the place after it, and all other bytes are as before
-pub record Puts (before after : List ℕ) (at end : ℕ) (text : List ℕ) : Type 0 where
-  pub place : end ≡ at + length text
-  pub bytes : after ≡ sets before at text
+-- so many bytes more fit into the buffer that a sink holds
+abbrev pub HasRoom : Sink → ℕ → Type 0
+HasRoom sink most = sink.at + most ≤ length sink.out.now
+
+-- a text was put into the buffer that a sink holds: the place is the one after it, and all other bytes are as before
+pub record Puts (before after : Sink) (text : List ℕ) : Type 0 where
+  pub same : after.out.ghost_name ≡ before.out.ghost_name
+  pub long : length after.out.now ≡ length before.out.now
+  pub place : after.at ≡ before.at + length text
+  pub bytes : after.out.now ≡ sets before.out.now before.at text
+
+-- and the place has gone on by at most so many bytes
+pub record PutsAtMost (most : ℕ) (before after : Sink) (text : List ℕ) : Type 0 where
+  pub puts : Puts before after text
+  pub short : after.at ≤ before.at + most

@@ -1,15 +1,15 @@
 -- Laws of texts in buffers, and by which the loops that put them are proved.
-use Rattle.std.specs.Prelude.{ℕ, zero, suc, ◌+◌, ◌-◌, ◌*◌, ◌/◌, ◌%◌, ◌^◌, ◌≤◌, ◌<◌, ◌≡◌, refl, Bool, cond, List, [], ◌∷◌, ◌++◌, length, get_or, set, take}
+use Rattle.std.specs.Prelude.{ℕ, zero, suc, ◌+◌, ◌-◌, ◌*◌, ◌/◌, ◌%◌, ◌^◌, ◌≤◌, ◌<◌, ◌≡◌, refl, Bool, cond, List, [], ◌∷◌, ◌++◌, length, set}
 use Rattle.std.proofs.Math.Nat.{sub-zero, div-div-eq-div-mul, pow-le-pow_right}
-use Rattle.std.proofs.Common.{mul-suc, mul-le-mul_left, div-one, le-div_iff_mul-le, pow-suc, add-one, arith, sym, ap, ap₂, subst, ◌∙◌, inl, inr, append_assoc, append-nil, lit<, length-set, length-append, take-suc, take_all, length-take-le, lt-ltb, le-ltb}
+use Rattle.std.proofs.Common.{mul-suc, mul-le-mul_left, div-one, le-div_iff_mul-le, pow-suc, add-one, arith, sym, ap, ap₂, subst, ◌∙◌, inl, inr, append_assoc, append-nil, lit<, length-set, length-append, lt-ltb, le-ltb}
 use Rattle.std.proofs.lemmas.List.Edits.{sets}
-use Rattle.std.proofs.Math.Seq.{length-sets}
 use Rattle.std.proofs.lemmas.List.{set_comm}
 use Rattle.model.specs.Rows.{span}
 use Rattle.model.proofs.NumberLaws.{le_or_lt}
 use Rattle.model.proofs.LoopLaws.{rest, rest_next, rest_end}
-use Rattle.text.specs.Text.{digits, width_from, width, decimal, each, Puts}
 use Rattle.model.proofs.ColumnLaws.{sets_append}
+use Rattle.text.specs.declared.Sink.{Sink}
+use Rattle.text.specs.Text.{digits, width_from, width, decimal, each, HasRoom, Puts, PutsAtMost}
 
 module _ {A : Type 0} where
   -- an entry before those that are put may be put last
@@ -19,51 +19,21 @@ module _ {A : Type 0} where
       set_sets (set l j w) i (suc j) v vs (omega arith)
       ∙ ap (λ (m : List A). sets m (suc j) vs) (set_comm l j i w v (omega arith))
 
--- the text is put whole
-pub puts_none : (d : List ℕ) (at : ℕ) → Puts d d at at []
-puts_none d at = record { place = omega arith; bytes = refl }
+-- nothing is put
+pub puts_none : (s : Sink) → Puts s s []
+puts_none s = record { same = refl; long = refl; place = omega arith; bytes = refl }
 
-pub puts_then : {a b c : List ℕ} {at mid end : ℕ} {t u : List ℕ} → Puts a b at mid t → Puts b c mid end u → Puts a c at end (t ++ u)
-puts_then {a} {at} {t} {u} p q = record {
+pub puts_then : {a b c : Sink} {t u : List ℕ} → Puts a b t → Puts b c u → Puts a c (t ++ u)
+puts_then {a} {t = t} {u = u} p q = record {
+  same = q.same ∙ p.same;
+  long = q.long ∙ p.long;
   place = omega (arith, p.place, q.place, length-append t u);
-  bytes = q.bytes ∙ ap₂ (λ (d : List ℕ) (k : ℕ). sets d k u) p.bytes p.place ∙ sets_append a at t u;
+  bytes = q.bytes ∙ ap₂ (λ (d : List ℕ) (k : ℕ). sets d k u) p.bytes p.place ∙ sets_append a.out.now a.at t u;
 }
 
 -- a text that is another
-pub puts_as : {a b : List ℕ} {at end : ℕ} {t u : List ℕ} → Puts a b at end t → t ≡ u → Puts a b at end u
-puts_as {a} {b} {at} {end} p e = subst (Puts a b at end) e p
-
-pub puts_length : {a b : List ℕ} {at end : ℕ} {t : List ℕ} → Puts a b at end t → length b ≡ length a
-puts_length {a} {at} {t} p = ap length p.bytes ∙ length-sets a at t
-
--- ---- a text that is copied byte by byte
-
-pub record Copied (before text : List ℕ) (at k : ℕ) (after : List ℕ) : Type 0 where
-  pub within : k ≤ length text
-  pub long : length after ≡ length before
-  pub bytes : after ≡ sets before at (take k text)
-
-module _ {before text : List ℕ} {at : ℕ} where
-  pub copied : Copied before text at 0 before
-  copied = record { within = omega arith; long = refl; bytes = refl }
-
-  module _ {k : ℕ} {after : List ℕ} (s : Copied before text at k after) where
-    pub copied_next : {v : ℕ} → k < length text → v ≡ get_or text k 0 → Copied before text at (k + 1) (set after (at + k) v)
-    copied_next {v} l e =
-        let n : length (take k text) ≡ k = length-take-le k text (omega arith) in
-        record {
-          within = omega arith;
-          long = length-set after (at + k) v ∙ s.long;
-          bytes = ap₂ (λ (d : List ℕ) (x : ℕ). set d (at + k) x) s.bytes e
-              ∙ ap (λ (j : ℕ). set (sets before at (take k text)) (at + j) (get_or text k 0)) (sym n)
-              ∙ sets_append before at (take k text) (get_or text k 0 ∷ [])
-              ∙ ap (sets before at) (sym (take-suc text k 0 l) ∙ ap (λ (j : ℕ). take j text) (sym (add-one k)));
-        }
-
-    pub copied_end : length text ≤ k → Puts before after at (at + k) text
-    copied_end l =
-        let w = s.within in
-        record { place = omega arith; bytes = s.bytes ∙ ap (sets before at) (take_all k text l) }
+pub puts_as : {a b : Sink} {t u : List ℕ} → Puts a b t → t ≡ u → Puts a b u
+puts_as {a} {b} p e = subst (Puts a b) e p
 
 -- ---- a number that is spelt from its last digit to its first
 
@@ -100,12 +70,12 @@ module _ {before : List ℕ} {n at k : ℕ} where
               ∙ ap (λ (j : ℕ). sets before (at + left') (digits j n)) (sym m);
         }
 
-    pub spelt_end : left ≤ 0 → Puts before after at (at + k) (digits k n)
+    pub spelt_end : left ≤ 0 → after ≡ sets before at (digits k n)
     spelt_end l =
         let e : left ≡ 0 = omega arith in
         let a : at + left ≡ at = omega arith in
         let b : k - left ≡ k = omega arith in
-        record { place = ap (λ (j : ℕ). at + j) (sym (length_digits k n)); bytes = rw (a, b) at s.bytes }
+        rw (a, b) at s.bytes
 
 -- ---- how many digits a number has
 
@@ -167,10 +137,10 @@ pub length_decimal : (n : ℕ) → length (decimal n) ≡ width n
 unfolding decimal
 length_decimal n = length_digits (width n) n
 
--- a number of so many digits is put in decimal
-pub puts_decimal : {before after : List ℕ} {at k : ℕ} (n : ℕ) → k ≡ width n → Puts before after at (at + k) (digits k n) → Puts before after at (at + k) (decimal n)
+-- a number of so many digits is spelt in decimal
+pub spelt_decimal : {k : ℕ} (n : ℕ) → k ≡ width n → digits k n ≡ decimal n
 unfolding decimal
-puts_decimal {before} {after} {at} {k} n e p = subst (λ (j : ℕ). Puts before after at (at + k) (digits j n)) e p
+spelt_decimal n e = ap (λ (j : ℕ). digits j n) e
 
 -- a number below a power of ten has no more digits than that
 pub decimal_short : (k n : ℕ) → 1 ≤ k → n < 10 ^ k → length (decimal n) ≤ k
@@ -192,41 +162,40 @@ decimal_short k n h l = omega (arith, length_decimal n, within n 1 h)
 -- ---- texts that are put one after the other
 
 -- the texts below i are put, none of them longer than `most`
-pub record Lined (text : ℕ → List ℕ) (most : ℕ) (before : List ℕ) (at n i end : ℕ) (after : List ℕ) : Type 0 where
+pub record Lined (text : ℕ → List ℕ) (most : ℕ) (before : Sink) (n i : ℕ) (after : Sink) : Type 0 where
   pub within : i ≤ n
   pub done : List ℕ
   pub left : each text (span 0 n) ≡ done ++ each text (rest i n)
-  pub puts : Puts before after at end done
-  pub short : end ≤ at + most * i
-  pub long : length after ≡ length before
+  pub puts : Puts before after done
+  pub short : after.at ≤ before.at + most * i
 
-module _ {text : ℕ → List ℕ} {most : ℕ} {before : List ℕ} {at n : ℕ} where
-  pub lined : Lined text most before at n 0 at before
-  lined = record { within = omega arith; done = []; left = rw sub-zero; puts = puts_none before at; short = omega arith; long = refl }
+module _ {text : ℕ → List ℕ} {most : ℕ} {before : Sink} {n : ℕ} where
+  pub lined : Lined text most before n 0 before
+  lined = record { within = omega arith; done = []; left = rw sub-zero; puts = puts_none before; short = omega arith }
 
-  module _ {i end : ℕ} {after : List ℕ} (s : Lined text most before at n i end after) where
-    pub lined_next : {end' : ℕ} {after' : List ℕ} → i < n → Puts after after' end end' (text i) × (end' ≤ end + most) → Lined text most before at n (i + 1) end' after'
+  module _ {i : ℕ} {after : Sink} (s : Lined text most before n i after) where
+    pub lined_next : {after' : Sink} → i < n → PutsAtMost most after after' (text i) → Lined text most before n (i + 1) after'
     lined_next h p = record {
       within = omega arith;
       done = s.done ++ text i;
       left = s.left ∙ ap (λ (rows : List ℕ). s.done ++ each text rows) (rest_next i n h) ∙ sym (append_assoc s.done (text i) (each text (rest (i + 1) n)));
-      puts = puts_then s.puts p.0;
-      short = (let m = mul-suc most i in rw (add-one i) (omega (arith, s.short, p.1)));
-      long = puts_length p.0 ∙ s.long;
+      puts = puts_then s.puts p.puts;
+      short = (let m = mul-suc most i in rw (add-one i) (omega (arith, s.short, p.short)));
     }
 
-    pub lined_end : n ≤ i → Puts before after at end (each text (span 0 n)) × (end ≤ at + most * n)
+    pub lined_end : n ≤ i → PutsAtMost (most * n) before after (each text (span 0 n))
     lined_end h =
         let w = s.within in
-        let e : i ≡ n = omega arith in (
-          subst (Puts before after at end) (sym (s.left ∙ ap (λ (rows : List ℕ). s.done ++ each text rows) (rest_end i n h) ∙ append-nil s.done)) s.puts,
-          subst (λ (k : ℕ). end ≤ at + most * k) e s.short,
-        )
+        let e : i ≡ n = omega arith in
+        record {
+          puts = puts_as s.puts (sym (s.left ∙ ap (λ (rows : List ℕ). s.done ++ each text rows) (rest_end i n h) ∙ append-nil s.done));
+          short = subst (λ (k : ℕ). after.at ≤ before.at + most * k) e s.short;
+        }
 
     -- there is room for one text more
-    pub lined_room : i < n → at + most * n ≤ length before → end + most ≤ length after
+    pub lined_room : i < n → HasRoom before (most * n) → HasRoom after most
     lined_room h r =
-        let l = s.long in
+        let l = s.puts.long in
         let m = mul-suc most i in
         let k : most * suc i ≤ most * n = mul-le-mul_left most h in
         omega (arith, s.short)

@@ -1,20 +1,15 @@
-// Words and numbers put into a lent buffer as bytes. Each call answers the place after what it put.
+// Words and numbers put as bytes into a lent buffer, one after the other.
 #![tactic(auto)]
 
-ghost use Rattle.std.specs.Prelude.{◌≡◌, ◌+◌, ◌≤◌, length};
-ghost use Rattle.text.specs.Text.{width, digits, decimal, Puts};
+ghost use Rattle.std.specs.Prelude.{◌≡◌, ◌+◌, ◌≤◌, length, take};
+ghost use Rattle.std.proofs.lemmas.List.Edits.{sets};
+ghost use Rattle.text.specs.Text.{width, digits, decimal, HasRoom, Puts};
 
-// Puts a text.
-pub fn put_text(out: &mut [u8], at: usize, text: &[u8]) -> usize
-    requires { at + length text.now ≤ length out.old }
-    ensures { Puts out.old out.new at result text.now }
-{
-    let mut k = 0;
-    while k < text.len() {
-        out[at + k] = text[k];
-        k += 1;
-    }
-    at + k
+// A lent buffer, and the place in it where the next byte goes.
+#[derive(Drop)]
+pub struct Sink<'a> {
+    pub out: &'a mut [u8],
+    pub at: usize,
 }
 
 // How many digits a number has.
@@ -33,7 +28,7 @@ fn digits_of(n: u64) -> usize
 // Puts the last k digits of a number, from the last to the first.
 fn put_digits(out: &mut [u8], at: usize, n: u64, k: usize)
     requires { at + k ≤ length out.old }
-    ensures { Puts out.old out.new at (at + k) (digits k n) }
+    ensures { out.new ≡ sets out.old at (digits k n) }
 {
     let mut left = k;
     let mut rest = n;
@@ -44,12 +39,43 @@ fn put_digits(out: &mut [u8], at: usize, n: u64, k: usize)
     }
 }
 
-// Puts a number in decimal.
-pub fn put_decimal(out: &mut [u8], at: usize, n: u64) -> usize
-    requires { at + length (decimal n) ≤ length out.old }
-    ensures { Puts out.old out.new at result (decimal n) }
-{
-    let k = digits_of(n);
-    put_digits(out, at, n, k);
-    at + k
+impl<'a> Sink<'a> {
+    // Over a buffer into which nothing is put yet.
+    pub fn new(out: &'a mut [u8]) -> Sink<'a>
+        ensures same { result.out.ghost_name ≡ out.entry.ghost_name }
+        ensures bytes { result.out.now ≡ out.old }
+        ensures place { result.at ≡ 0 }
+    {
+        Sink { out, at: 0 }
+    }
+
+    // What is put, from the buffer's start on.
+    pub fn text(&self) -> &[u8]
+        requires { self.now.at ≤ length self.now.out.now }
+        ensures { result.now ≡ take self.now.at self.now.out.now }
+    {
+        &self.out[..self.at]
+    }
+
+    // Puts a text.
+    pub fn put_text(&mut self, text: &[u8])
+        requires { HasRoom self.old (length text.now) }
+        ensures { Puts self.old self.new text.now }
+    {
+        let at = self.at;
+        let end = at + text.len();
+        let out = &mut *self.out;
+        out[at..end].copy_from_slice(text);
+        self.at = end;
+    }
+
+    // Puts a number in decimal.
+    pub fn put_decimal(&mut self, n: u64)
+        requires { HasRoom self.old (length (decimal n)) }
+        ensures { Puts self.old self.new (decimal n) }
+    {
+        let k = digits_of(n);
+        put_digits(self.out, self.at, n, k);
+        self.at += k;
+    }
 }

@@ -1,46 +1,53 @@
 -- The word of differing routers: how a loop makes it, and that its ones are as many as the routers.
-use Rattle.std.specs.Prelude.{ℕ, zero, suc, ◌+◌, ◌*◌, ◌≤◌, ◌<◌, ◌^◌, ◌%◌, ◌≡◌, refl, Bool, true, false, cond, List, ◌∷◌, length}
-use Rattle.std.proofs.Common.{pow-suc, one-mul, zero-mul, mul_comm, mul_assoc, add-mul, add-one, arith, sym, ap, ◌∙◌, lit<, pow_mono}
+use Rattle.std.specs.Prelude.{ℕ, zero, suc, ◌+◌, ◌*◌, ◌<◌, ◌^◌, ◌%◌, ◌≡◌, refl, Bool, true, false, cond, List, [], ◌∷◌, ◌++◌, length}
+use Rattle.std.proofs.Common.{pow-suc, one-mul, zero-mul, mul_comm, mul_assoc, add-mul, add-one, arith, sym, ap, ◌∙◌, lit<, append-nil}
 use Rattle.std.specs.Int.Count.{ones}
 use Rattle.std.proofs.lemmas.Nat.{ones_cat}
 use Rattle.model.specs.Rows.{keep, span}
 use Rattle.model.proofs.NumberLaws.{shifted}
-use Rattle.model.proofs.LoopLaws.{Walk, walk, walk_on, walk_off, walk_end}
+use Rattle.model.proofs.RowLaws.{keep_append}
 use Rattle.word.specs.Word.{word}
 
 -- ---- the loop
 
--- the word of the routers that pass a test is had from the bits below i and the routers from i on
-pub record Marked (test : ℕ → Bool) (n i bits : ℕ) : Type 0 where
-  pub at : Walk (word (keep test (span 0 n))) (λ rows. bits + word rows) test n i
+-- one more number, and one more router
+span_snoc : (a n : ℕ) → span a (suc n) ≡ span a n ++ ((a + n) ∷ [])
+span_snoc a zero = ap (λ (x : ℕ). x ∷ []) (omega arith)
+span_snoc a (suc n) = ap (λ (l : List ℕ). a ∷ l) (span_snoc (suc a) n ∙ ap (λ (x : ℕ). span (suc a) n ++ (x ∷ [])) (omega arith))
+
+word_snoc : (rs : List ℕ) (r : ℕ) → word (rs ++ (r ∷ [])) ≡ word rs + 2 ^ r
+word_snoc [] r = omega arith
+word_snoc (q ∷ rs) r = omega (arith, word_snoc rs r)
+
+-- the bits are the word of the routers below i that pass a test
+pub record Marked (test : ℕ → Bool) (i bits : ℕ) : Type 0 where
+  pub at : bits ≡ word (keep test (span 0 i))
   pub low : bits < 2 ^ i
 
-module _ {test : ℕ → Bool} {n : ℕ} where
-  pub marked : Marked test n 0 0
-  marked = record { at = walk (omega arith); low = omega arith }
+module _ {test : ℕ → Bool} where
+  pub marked : Marked test 0 0
+  marked = record { at = refl; low = omega arith }
 
-  module _ {i bits : ℕ} (s : Marked test n i bits) where
-    pub marked_end : n ≤ i → bits ≡ word (keep test (span 0 n))
-    marked_end l = let e = walk_end s.at l in omega arith
+  module _ {i bits : ℕ} (s : Marked test i bits) where
+    next : keep test (span 0 (i + 1)) ≡ keep test (span 0 i) ++ keep test (i ∷ [])
+    next =
+        ap (λ (k : ℕ). keep test (span 0 k)) (add-one i)
+        ∙ ap (keep test) (span_snoc 0 i ∙ ap (λ (x : ℕ). span 0 i ++ (x ∷ [])) (omega arith))
+        ∙ keep_append test (span 0 i) (i ∷ [])
 
-    -- the next bit does not run over
-    pub marked_room : i < 64 → bits + (1 * 2 ^ i) % 2 ^ 64 < 2 ^ 64
-    marked_room h = rw (shifted i h) (omega (arith, s.low, pow_mono {i = i} {j = 63} (omega arith)))
+    pub marked_off : test i ≡ false → Marked test (i + 1) bits
+    marked_off h = record {
+      at = s.at ∙ sym (ap word (next ∙ (rw h (append-nil (keep test (span 0 i))))));
+      low = rw (add-one i, pow-suc 2 i) (omega (arith, s.low));
+    }
 
-    module _ {b : Bool} (l : i < n) (e : b ≡ test i) where
-      pub marked_off : b ≡ false → Marked test n (i + 1) bits
-      marked_off h = record {
-        at = walk_off s.at l e h;
-        low = rw (add-one i, pow-suc 2 i) (omega (arith, s.low));
-      }
-
-      pub marked_on : {bits' : ℕ} → i < 64 → b ≡ true → bits' ≡ bits + (1 * 2 ^ i) % 2 ^ 64 → Marked test n (i + 1) bits'
-      marked_on h t d =
-          let v = d ∙ ap (λ (x : ℕ). bits + x) (shifted i h) in
-          record {
-            at = walk_on s.at l e t (λ rows. omega (arith, v));
-            low = rw (add-one i, pow-suc 2 i) (omega (arith, s.low, v));
-          }
+    pub marked_on : {bits' : ℕ} → i < 64 → test i ≡ true → bits' ≡ bits + (1 * 2 ^ i) % 2 ^ 64 → Marked test (i + 1) bits'
+    marked_on h t d =
+        let v = d ∙ ap (λ (x : ℕ). bits + x) (shifted i h) in
+        record {
+          at = v ∙ ap (λ (x : ℕ). x + 2 ^ i) s.at ∙ sym (ap word (next ∙ rw t) ∙ word_snoc (keep test (span 0 i)) i);
+          low = rw (add-one i, pow-suc 2 i) (omega (arith, s.low, v));
+        }
 
 -- ---- its ones
 

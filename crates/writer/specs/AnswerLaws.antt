@@ -1,11 +1,12 @@
 -- What an answer of writing tells: its numbers tell which it is, and where it wrote, what stands in the output.
-use Rattle.std.specs.Prelude.{ℕ, ◌≤◌, ◌≡◌, refl, List, length, take, drop, T}
+use Rattle.std.specs.Prelude.{ℕ, ◌≤◌, ◌≡◌, refl, List, [], ◌∷◌, length, take, drop, T, Result}
 use Rattle.std.proofs.Common.{arith, sym, ap, ◌∙◌}
 use Rattle.std.proofs.lemmas.List.Edits.{sets}
 use Rattle.std.proofs.Math.Seq.{take-append_seam}
 use Rattle.std.proofs.Math.Facts.{T_not}
 use Rattle.refusal.specs.Numbers.{Said}
-use Rattle.refusal.proofs.NumbersLaws.{value, same_refusal, gives_refuses}
+use Rattle.refusal.specs.declared.Refused.{Refused}
+use Rattle.refusal.proofs.NumbersLaws.{value, answer_tells}
 use Rattle.model.proofs.ColumnLaws.{sets_front}
 use Rattle.snapshot.specs.declared.Counts.{Counts}
 use Rattle.snapshot.specs.Ranges.{any_of, none}
@@ -13,16 +14,11 @@ use Rattle.snapshot.specs.Format.{Snapshot, encode, Valid}
 use Rattle.snapshot.specs.Tables.{Tables, short, Held}
 use Rattle.snapshot.proofs.TablesLaws.{has_room}
 use Rattle.tables.specs.Theorems.{held_one}
-use Rattle.writer.specs.declared.Write.{Write}
-use Rattle.writer.specs.declared.Write.TheVariants.{Written, Refused}
 use Rattle.writer.specs.Writing.{wrote, said, Writes, room, unheld, full, done}
 
 -- the numbers tell the answer
-pub said_tells : (a b : Write) → said a ≡ said b → a ≡ b
-said_tells (Written n) (Written m) e = ap (λ (s : Said). Written (value s 0)) e
-said_tells (Written n) (Refused r at) e = absurd (gives_refuses r at _ e)
-said_tells (Refused r at) (Written m) e = absurd (gives_refuses r at _ (sym e))
-said_tells (Refused r at) (Refused q place) e = same_refusal Refused r q at place e
+pub said_tells : (a b : Result ℕ Refused) → said a ≡ said b → a ≡ b
+said_tells = answer_tells (λ n. n ∷ []) (λ n m e. ap (λ (s : Said). value s 0) e)
 
 -- any two results say the same and leave the same
 module _ {counts : Counts} {t : Tables} {before : List ℕ} where

@@ -1,9 +1,8 @@
 -- The bytes of each section, taken off one by one from the front, as the loops put them.
-use Rattle.std.specs.Prelude.{ℕ, suc, ◌+◌, ◌-◌, ◌≤◌, ◌<◌, ◌≡◌, refl, ◌≢◌, List, [], ◌∷◌, ◌++◌, map, length}
-use Rattle.std.proofs.Common.{zero-le, add-one, arith, sym, ap, ◌∙◌, subst, append_assoc}
+use Rattle.std.specs.Prelude.{ℕ, suc, ◌+◌, ◌-◌, ◌<◌, ◌≡◌, refl, ◌≢◌, List, [], ◌∷◌, ◌++◌, map, length}
+use Rattle.std.proofs.Common.{add-one, arith, sym, ap, ◌∙◌, subst, append_assoc}
 use Rattle.std.proofs.Math.Nat.{sub-zero}
 use Rattle.std.proofs.lemmas.List.Edits.{sets}
-use Rattle.std.proofs.Math.Seq.{length-sets}
 use Rattle.model.specs.Rows.{table, column, start}
 use Rattle.model.proofs.LoopLaws.{rest, rest_next, rest_end}
 use Rattle.snapshot.specs.Records.{router_form, distance_form, prefix_form, route_forms, written, written_in}
@@ -19,30 +18,25 @@ use Rattle.writer.specs.Writing.{pairs_bytes, row_bytes, rows_bytes, prefix_from
 pub record Step (bytes : ℕ → List ℕ) (k : ℕ) (part : List ℕ) : Type 0 where
   pub first : bytes k ≡ part ++ bytes (k + 1)
 
--- A loop that puts the k-th part of n in its k-th turn: `bytes k` is what is left from the k-th part on, `whole` what is put in all.
-pub record Section (bytes : ℕ → List ℕ) (n : ℕ) (whole before : List ℕ) (first k : ℕ) (out : List ℕ) (at : ℕ) : Type 0 where
-  pub within : k ≤ n
+-- A loop that puts the k-th part in its k-th turn: `bytes k` is what is left from the k-th part on, `whole` what is put in all.
+pub record Section (bytes : ℕ → List ℕ) (whole before : List ℕ) (first k : ℕ) (out : List ℕ) (at : ℕ) : Type 0 where
   pub left : Left (sets before first whole) (first + length whole) out at (bytes k)
 
-module _ {bytes : ℕ → List ℕ} {n : ℕ} {whole before : List ℕ} {first : ℕ} where
-  pub section : bytes 0 ≡ whole → Space whole before first → Section bytes n whole before first 0 before first
-  section e h = record { within = zero-le; left = left_as (sym e) (left h) }
+module _ {bytes : ℕ → List ℕ} {whole before : List ℕ} {first : ℕ} where
+  pub section : bytes 0 ≡ whole → Space whole before first → Section bytes whole before first 0 before first
+  section e h = record { left = left_as (sym e) (left h) }
 
-  module _ {k : ℕ} {out : List ℕ} {at : ℕ} (s : Section bytes n whole before first k out at) where
-    module _ {part : List ℕ} (l : k < n) (step : Step bytes k part) where
+  module _ {k : ℕ} {out : List ℕ} {at : ℕ} (s : Section bytes whole before first k out at) where
+    module _ {part : List ℕ} (step : Step bytes k part) where
       pub section_room : Space part out at
       section_room = left_room part (bytes (k + 1)) (left_as step.first s.left)
 
-      pub section_next : {after : List ℕ} {next : ℕ} → after ≡ sets out at part → next ≡ at + length part → Section bytes n whole before first (k + 1) after next
-      section_next f p = record { within = omega arith; left = left_next part (bytes (k + 1)) (left_as step.first s.left) f p }
+      pub section_next : {after : List ℕ} {next : ℕ} → after ≡ sets out at part → next ≡ at + length part → Section bytes whole before first (k + 1) after next
+      section_next f p = record { left = left_next part (bytes (k + 1)) (left_as step.first s.left) f p }
 
-    pub section_long : length out ≡ length before
-    section_long = sym (length-sets out at (bytes k)) ∙ ap length s.left.same ∙ length-sets before first whole
-
-    pub section_end : n ≤ k → bytes n ≡ [] → Puts whole before first out at
+    pub section_end : {n : ℕ} → k ≡ n → bytes n ≡ [] → Puts whole before first out at
     section_end l e =
-        let w = s.within in
-        let last = left_as (ap bytes (let z : k ≡ n = omega arith in z) ∙ e) s.left in
+        let last = left_as (ap bytes l ∙ e) s.left in
         record { same = left_done last; place = left_end last }
 
 -- ---- routers

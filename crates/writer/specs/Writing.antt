@@ -1,8 +1,9 @@
 -- Writing tables back as a snapshot's bytes: what is answered, and what stands in the output afterwards.
-use Rattle.std.specs.Prelude.{ℕ, ◌+◌, ◌-◌, ◌*◌, ◌≤◌, ◌<◌, Bool, List, [], ◌∷◌, ◌++◌, map, length, T}
+use Rattle.std.specs.Prelude.{ℕ, ◌+◌, ◌-◌, ◌*◌, ◌≤◌, ◌<◌, Bool, List, [], ◌∷◌, ◌++◌, map, length, T, Result}
 use Rattle.std.proofs.lemmas.List.Edits.{sets}
 use Rattle.refusal.specs.declared.Refusal.TheVariants.{Room, Table}
-use Rattle.refusal.specs.Numbers.{Said, refuses, gives}
+use Rattle.refusal.specs.declared.Refused.{Refused}
+use Rattle.refusal.specs.Numbers.{Said, refuses, gives, said_by}
 use Rattle.model.specs.Rows.{table, column}
 use Rattle.snapshot.specs.declared.Counts.{Counts}
 use Rattle.snapshot.specs.Ranges.{any_of, none}
@@ -10,19 +11,16 @@ use Rattle.snapshot.specs.Records.{count_form, router_form, distance_form, prefi
 use Rattle.snapshot.specs.Format.{Prefix, Snapshot, Pair, row, pairs, routers_bytes, distances_bytes, routes_bytes, encode, Valid}
 use Rattle.snapshot.specs.Tables.{Tables, short, Held}
 use Rattle.tables.specs.Judging.{routes_at, cell, Holding}
-use Rattle.writer.specs.declared.Write.{Write}
-use Rattle.writer.specs.declared.Write.TheVariants.{Written, Refused}
 
--- ---- what is answered, in document 01's numbers
+-- ---- what is answered, in numbers
 
 -- so many bytes were written
 abbrev pub wrote : ℕ → Said
 wrote n = gives (n ∷ [])
 
 -- the answer of the code
-abbrev pub said : Write → Said
-said (Written n) = wrote n
-said (Refused r at) = refuses r at
+abbrev pub said : Result ℕ Refused → Said
+said = said_by wrote
 
 -- ---- what writing promises, of counts, tables and the output before it: the answer, and the output after it
 

@@ -1,14 +1,18 @@
 -- The parts of a snapshot's bytes, their number by the counts and the ASes, and each case of writing.
-use Rattle.std.specs.Prelude.{ℕ, ◌+◌, ◌-◌, ◌*◌, ◌≤◌, ◌<◌, ◌≡◌, refl, Bool, List, [], ◌∷◌, ◌++◌, map, length, T}
-use Rattle.std.proofs.Common.{zero-le, mul-le-mul, add-one, arith, sym, ap, ◌∙◌, subst, ⊎_elim, append_assoc, lit≤}
+use Rattle.std.specs.Prelude.{ℕ, ◌+◌, ◌-◌, ◌*◌, ◌≤◌, ◌<◌, ◌≡◌, refl, List, [], ◌∷◌, ◌++◌, map, length, take, T, Result, Err}
+use Rattle.std.proofs.Common.{zero-le, mul-le-mul, arith, sym, ap, ◌∙◌, subst, ⊎_elim, append_assoc, length-take, get_or-take, lit≤}
 use Rattle.std.proofs.lemmas.List.{length-map}
 use Rattle.std.proofs.lemmas.List.Edits.{sets}
 use Rattle.refusal.specs.declared.Refusal.{Refusal}
 use Rattle.refusal.specs.declared.Refusal.TheVariants as refusal
+use Rattle.refusal.specs.declared.Refused.{Refused}
 use Rattle.refusal.specs.Numbers.{refuses}
 use Rattle.model.specs.Rows.{span, table, column, start}
 use Rattle.model.specs.Decision.{Route}
-use Rattle.model.proofs.RowLaws.{table_snoc}
+use Rattle.std.specs.List as list
+use Rattle.std.proofs.lemmas.Simd.{map-map}
+use Rattle.std.proofs.lemmas.List.Sums.{sum_by-cons}
+use Rattle.model.proofs.RowLaws.{length_span, table_same}
 use Rattle.snapshot.specs.declared.Counts.{Counts}
 use Rattle.snapshot.specs.Limits.{most_routers, most_routes}
 use Rattle.snapshot.specs.Ranges.{none}
@@ -20,13 +24,12 @@ use Rattle.snapshot.proofs.ChecksLaws.{count_range}
 use Rattle.snapshot.proofs.PairsLaws.{pairs_length}
 use Rattle.snapshot.proofs.WrittenLaws.{route_size, routes_size, encode_size}
 use Rattle.tables.specs.Judging.{route_at, prefix_at, snapshot_of, cell, InRange, Parts, Holding, numbered, Verdicts}
-use Rattle.tables.specs.declared.Verdict.{Verdict}
-use Rattle.tables.specs.declared.Verdict.TheVariants as verdict
-use Rattle.tables.specs.Theorems.{verdict_refused}
+use Rattle.tables.specs.Theorems.{Placed, placed_err, verdict_refused}
+use Rattle.tables.specs.ListsLaws.{as_table}
 use Rattle.tables.specs.PartsLaws.{all_table, parts_valid, parts_held, holding_parts}
 use Rattle.snapshot.proofs.TablesLaws.{has_room}
 use Rattle.records.specs.Putting.{Space, Puts}
-use Rattle.records.specs.PuttingLaws.{puts_append}
+use Rattle.records.specs.PuttingLaws.{puts_append, space_first, space_then}
 use Rattle.writer.specs.Writing.{network_bytes, pair_count, size_by, routes_of, size_of, records_of, wrote, Writes, room, unheld, full, done}
 
 -- the pairs of at most 64 routers
@@ -38,35 +41,33 @@ routers_range {counts} range = count_range counts.routers range.routers
 
 -- ---- the sizes of routes
 
-sum_snoc : (xs : List ℕ) (x : ℕ) → sum (xs ++ (x ∷ [])) ≡ sum xs + x
-sum_snoc [] x = omega arith
-sum_snoc (y ∷ xs) x = let e = sum_snoc xs x in omega arith
+-- those of the first n routes, however many ASes there are
+pub routes_take : (asn : List ℕ) (n : ℕ) → n ≤ length asn → routes_of (take n asn) (length (take n asn)) ≡ routes_of asn n
+routes_take asn n l =
+    let long : length (take n asn) ≡ n = simp length-take (omega arith) in
+    ap (routes_of (take n asn)) long
+    ∙ ap sum (table_same (λ k. size_by (four_byte (column (take n asn) k))) (λ k. size_by (four_byte (column asn k))) n (λ k m. ap (λ (a : ℕ). size_by (four_byte a)) (get_or-take n asn k 0 m)))
 
--- the sizes of the routes below k are summed up; each is that of kind 7 at most
-pub record Summed (asn : List ℕ) (n k total : ℕ) : Type 0 where
-  pub within : k ≤ n
-  pub sums : total ≡ routes_of asn k
-  pub most : total ≤ size four_byte_route_form * k
+-- they are those of the ASes, one by one
+pub sizes_of : (asn : List ℕ) → list.sum (map (λ a. size_by (four_byte a)) asn) ≡ routes_of asn (length asn)
+sizes_of asn =
+    let one : ℕ → ℕ = λ a. size_by (four_byte a) in
+    same_sum (map one asn) ∙ ap (λ (xs : List ℕ). sum (map one xs)) (as_table 0 asn) ∙ ap sum (map-map one (column asn) (span 0 (length asn)))
+  where
+    same_sum : (xs : List ℕ) → list.sum xs ≡ sum xs
+    same_sum [] = refl
+    same_sum (x ∷ xs) = sum_by-cons (λ x. x) x xs ∙ ap (λ (n : ℕ). x + n) (same_sum xs)
 
-module _ {asn : List ℕ} {n : ℕ} where
-  pub summed : Summed asn n 0 0
-  summed = record { within = zero-le; sums = refl; most = zero-le }
-
-  pub summed_next : {k total size : ℕ} {four : Bool} → Summed asn n k total → k < n → four ≡ four_byte (column asn k) → size ≡ size_by four → Summed asn n (k + 1) (total + size)
-  summed_next {k} {four} s l e f =
-      let here : size_by four ≤ size four_byte_route_form = of_routes (λ f. size f ≤ size four_byte_route_form) (lit≤ tt) (lit≤ tt) four in
-      let more : routes_of asn (k + 1) ≡ routes_of asn k + size_by (four_byte (column asn k)) =
-      ap (routes_of asn) (add-one k) ∙ ap sum (table_snoc (λ k. size_by (four_byte (column asn k))) k) ∙ sum_snoc (table k (λ k. size_by (four_byte (column asn k)))) (size_by (four_byte (column asn k))) in
-      let so = s.sums in
-      let most = s.most in
-      let same = f ∙ ap size_by e in
-      record { within = omega arith; sums = omega arith; most = omega arith }
-
-  pub summed_end : {k total : ℕ} → Summed asn n k total → n ≤ k → n ≤ most_routes → (total ≡ routes_of asn n) × (total ≤ size four_byte_route_form * most_routes)
-  summed_end {k} s l m =
-      let w = s.within in
-      let most = s.most in
-      (s.sums ∙ ap (routes_of asn) (let e : k ≡ n = omega arith in e), omega arith)
+-- each is that of kind 7 at most
+pub sizes_most : (asn : List ℕ) → length asn ≤ most_routes → routes_of asn (length asn) ≤ size four_byte_route_form * most_routes
+sizes_most asn few = let all = most (span 0 (length asn)) in let long = length_span 0 (length asn) in omega arith
+  where
+    most : (ks : List ℕ) → sum (map (λ k. size_by (four_byte (column asn k))) ks) ≤ size four_byte_route_form * length ks
+    most [] = zero-le
+    most (k ∷ ks) =
+        let here : size_by (four_byte (column asn k)) ≤ size four_byte_route_form = of_routes (λ f. size f ≤ size four_byte_route_form) (lit≤ tt) (lit≤ tt) (four_byte (column asn k)) in
+        let rest = most ks in
+        omega arith
 
 -- they are those of the routes that the columns hold
 sizes_are : (f : ℕ → Route) (ks : List ℕ) → routes_size (map f ks) ≡ sum (map (λ k. route_size (f k)) ks)
@@ -140,11 +141,13 @@ module _ {counts : Counts} {t : Tables} (has : Room t) (parts : Parts counts t) 
 
 module _ (counts : Counts) (t : Tables) (before : List ℕ) where
   -- refused before the output is looked at
-  pub writes_no : {v : Verdict} {r : Refusal} → v ≡ verdict.Refused r → Verdicts counts t (numbered v) → Writes counts t before (refuses r 0) before
-  writes_no {r} e given = ⊎_elim
+  pub writes_no : {v : Result Unit Refusal} {w : Result Unit Refused} {r : Refused} → Placed v w → w ≡ Err r → Verdicts counts t (numbered v) → Writes counts t before (refuses r.refusal r.place) before
+  writes_no placed e given =
+      let (q, same, at) = placed_err placed e in
+      subst (λ (r : Refused). Writes counts t before (refuses r.refusal r.place) before) (sym at) (⊎_elim
       (λ k. subst (λ (q : Refusal). Writes counts t before (refuses q 0) before) (sym k.0) (room k.1))
       (λ k. subst (λ (q : Refusal). Writes counts t before (refuses q 0) before) (sym k.0) (unheld k.1 k.2))
-      (verdict_refused given r (ap numbered e))
+      (verdict_refused given q (ap numbered same)))
 
   module _ (enough : T (none (short t))) (holding : Holding counts t) where
     has : Room t
@@ -158,11 +161,32 @@ module _ (counts : Counts) (t : Tables) (before : List ℕ) where
         let size = encode_long has parts in
         full enough (snapshot_of counts t) (parts_valid has parts) (parts_held has parts) (omega arith)
 
-    pub writes_space : size_of counts t.rows.asn ≤ length before → Space (network_bytes t.ids t.distances counts.routers ++ (prefixes_bytes (table counts.prefixes (prefix_at t)) ++ written end_form (records_of counts ∷ []))) before 0
-    writes_space l =
-        let size = encode_long has parts in
-        let whole : Space (encode (snapshot_of counts t)) before 0 = record { fits = omega arith } in
-        subst (λ (bs : List ℕ). Space bs before 0) (encode_parts has parts) whole
+    -- where there is room for all bytes, there is room for each part behind those before it
+    module _ (l : size_of counts t.rows.asn ≤ length before) where
+      abbrev network : List ℕ
+      network = network_bytes t.ids t.distances counts.routers
+
+      abbrev prefixes : List ℕ
+      prefixes = prefixes_bytes (table counts.prefixes (prefix_at t))
+
+      abbrev ending : List ℕ
+      ending = written end_form (records_of counts ∷ [])
+
+      writes_space : Space (network ++ (prefixes ++ ending)) before 0
+      writes_space =
+          let size = encode_long has parts in
+          let whole : Space (encode (snapshot_of counts t)) before 0 = record { fits = omega arith } in
+          subst (λ (bs : List ℕ). Space bs before 0) (encode_parts has parts) whole
+
+      pub network_space : Space network before 0
+      network_space = space_first network (prefixes ++ ending) writes_space
+
+      module _ {a : List ℕ} {m : ℕ} (p : Puts network before 0 a m) where
+        pub prefixes_space : Space prefixes a m
+        prefixes_space = space_first prefixes ending (space_then network (prefixes ++ ending) writes_space p)
+
+        pub end_room : {b : List ℕ} {k : ℕ} → Puts prefixes a m b k → k + size end_form ≤ length b
+        end_room q = (space_then prefixes ending (space_then network (prefixes ++ ending) writes_space p) q).fits
 
     pub writes_done : {a b c : List ℕ} {m k r : ℕ} → size_of counts t.rows.asn ≤ length before → Puts (network_bytes t.ids t.distances counts.routers) before 0 a m
         → Puts (prefixes_bytes (table counts.prefixes (prefix_at t))) a m b k → c ≡ sets b k (written end_form (r ∷ [])) → r ≡ records_of counts

@@ -6,22 +6,15 @@ ghost use Rattle.model.specs.Rows.{table, column, start};
 ghost use Rattle.snapshot.specs.Limits.{most_routers, room_distances, most_prefixes, most_routes};
 ghost use Rattle.snapshot.specs.Records.{four_byte_route_form, size};
 ghost use Rattle.snapshot.specs.Format.{routers_bytes, prefixes_bytes, routes_bytes};
-ghost use Rattle.snapshot.specs.Tables.{columns, tables, short, prefix_tables, RoomPrefixes, Wide};
+ghost use Rattle.snapshot.specs.Tables.{short, RoomPrefixes, Wide};
+ghost use Rattle.snapshot.specs.Lent.{columns_of, tables_of};
 ghost use Rattle.snapshot.specs.Ranges.{none};
 ghost use Rattle.tables.specs.Judging.{routes_at, prefix_at, InRange, Holding};
 ghost use Rattle.records.specs.Putting.{Space, Puts};
 ghost use Rattle.writer.specs.Writing.{row_bytes, rows_bytes, network_bytes, prefix_from, prefix_bytes, pair_count, routes_of, size_of, records_of, said, Writes};
 
-use refusal::Refusal;
-use snapshot::Counts;
-use tables::Verdict;
-
-// The answer to a call that writes: the number of bytes, or a refusal with its place.
-#[derive(Clone, Copy)]
-pub enum Write {
-    Written(usize),
-    Refused(Refusal, usize),
-}
+use refusal::{Refusal, Refused};
+use snapshot::{Columns, Counts, Tables};
 
 // The router records.
 fn put_ids(n: usize, ids: &[u32], out: &mut [u8], first: usize) -> usize
@@ -29,11 +22,9 @@ fn put_ids(n: usize, ids: &[u32], out: &mut [u8], first: usize) -> usize
     ensures { Puts (routers_bytes 0 (table n (column ids.now))) out.old first out.new result }
 {
     let mut at = first;
-    let mut k = 0;
-    while k < n {
-        records::put_router(out, at, k as u32, ids[k]);
+    for (k, id) in ids[..n].iter().enumerate() {
+        records::put_router(out, at, k as u32, *id);
         at += snapshot::ROUTER_SIZE;
-        k += 1;
     }
     at
 }
@@ -44,10 +35,8 @@ fn put_row(n: usize, distances: &[u32], from: usize, out: &mut [u8], first: usiz
     ensures { Puts (row_bytes distances.now n from) out.old first out.new result }
 {
     let mut at = first;
-    let mut to = 0;
-    while to < n {
+    for to in 0..n {
         if from == to {
-            to += 1;
             continue;
         }
         records::put_distance(
@@ -59,7 +48,6 @@ fn put_row(n: usize, distances: &[u32], from: usize, out: &mut [u8], first: usiz
             from * snapshot::STRIDE + to,
         );
         at += snapshot::DISTANCE_SIZE;
-        to += 1;
     }
     at
 }
@@ -70,142 +58,57 @@ fn put_distances(n: usize, distances: &[u32], out: &mut [u8], first: usize) -> u
     ensures { Puts (rows_bytes distances.now n) out.old first out.new result }
 {
     let mut at = first;
-    let mut from = 0;
-    while from < n {
+    for from in 0..n {
         at = put_row(n, distances, from, out, at);
-        from += 1;
     }
     at
 }
 
 // The records that come before the prefixes: the number of routers, the routers, the distances.
-fn put_network(n: usize, ids: &[u32], distances: &[u32], out: &mut [u8]) -> usize
-    requires { (n ≤ most_routers) × (most_routers ≤ length ids.now) × (room_distances ≤ length distances.now)
-        × Space (network_bytes ids.now distances.now n) out.old 0 }
-    ensures { Puts (network_bytes ids.now distances.now n) out.old 0 out.new result }
+fn put_network(n: usize, tables: &Tables<'_>, out: &mut [u8]) -> usize
+    requires { (n ≤ most_routers) × (most_routers ≤ length tables.now.ids.now) × (room_distances ≤ length tables.now.distances.now)
+        × Space (network_bytes tables.now.ids.now tables.now.distances.now n) out.old 0 }
+    ensures { Puts (network_bytes tables.now.ids.now tables.now.distances.now n) out.old 0 out.new result }
 {
     records::put_count(out, 0, n as u32);
-    let at = put_ids(n, ids, out, snapshot::COUNT_SIZE);
-    put_distances(n, distances, out, at)
+    let at = put_ids(n, tables.ids, out, snapshot::COUNT_SIZE);
+    put_distances(n, tables.distances, out, at)
 }
 
 // The records of so many routes from a row on.
-fn put_routes(
-    router: &[u32],
-    asn: &[u32],
-    preference: &[u32],
-    path: &[u32],
-    origin: &[u32],
-    mark: &[u32],
-    med: &[u32],
-    nid: &[u32],
-    peer: &[u32],
-    row: usize,
-    count: usize,
-    out: &mut [u8],
-    first: usize,
-) -> usize
-    requires { (row + count ≤ most_routes) × Wide most_routes (columns router.now asn.now preference.now path.now origin.now mark.now med.now nid.now peer.now) × Space (routes_bytes (routes_at (columns router.now asn.now preference.now path.now origin.now mark.now med.now nid.now peer.now) row count)) out.old first }
-    ensures { Puts (routes_bytes (routes_at (columns router.now asn.now preference.now path.now origin.now mark.now med.now nid.now peer.now) row count)) out.old first out.new result }
+fn put_routes(rows: &Columns<'_>, row: usize, count: usize, out: &mut [u8], first: usize) -> usize
+    requires { (row + count ≤ most_routes) × Wide most_routes (columns_of rows.now) × Space (routes_bytes (routes_at (columns_of rows.now) row count)) out.old first }
+    ensures { Puts (routes_bytes (routes_at (columns_of rows.now) row count)) out.old first out.new result }
 {
     let mut at = first;
-    let mut k = 0;
-    while k < count {
-        at = records::put_route(
-            out,
-            at,
-            router,
-            asn,
-            preference,
-            path,
-            origin,
-            mark,
-            med,
-            nid,
-            peer,
-            row + k,
-        );
-        k += 1;
+    for k in 0..count {
+        at = records::put_route(out, at, rows, row + k);
     }
     at
 }
 
 // The record of a prefix, and those of its routes, which start at a row.
-fn put_prefix(
-    address: &[u32],
-    bits: &[u32],
-    routes: &[u32],
-    router: &[u32],
-    asn: &[u32],
-    preference: &[u32],
-    path: &[u32],
-    origin: &[u32],
-    mark: &[u32],
-    med: &[u32],
-    nid: &[u32],
-    peer: &[u32],
-    p: usize,
-    row: usize,
-    out: &mut [u8],
-    first: usize,
-) -> usize
-    requires { (p < most_prefixes) × (row + column routes.now p ≤ most_routes)
-        × RoomPrefixes (prefix_tables address.now bits.now routes.now (columns router.now asn.now preference.now path.now origin.now mark.now med.now nid.now peer.now)) × Space (prefix_bytes (prefix_from (prefix_tables address.now bits.now routes.now (columns router.now asn.now preference.now path.now origin.now mark.now med.now nid.now peer.now)) p row)) out.old first }
-    ensures { Puts (prefix_bytes (prefix_from (prefix_tables address.now bits.now routes.now (columns router.now asn.now preference.now path.now origin.now mark.now med.now nid.now peer.now)) p row)) out.old first out.new result }
+fn put_prefix(tables: &Tables<'_>, p: usize, row: usize, out: &mut [u8], first: usize) -> usize
+    requires { (p < most_prefixes) × (row + column tables.now.routes.now p ≤ most_routes)
+        × RoomPrefixes (tables_of tables.now) × Space (prefix_bytes (prefix_from (tables_of tables.now) p row)) out.old first }
+    ensures { Puts (prefix_bytes (prefix_from (tables_of tables.now) p row)) out.old first out.new result }
 {
-    let count = routes[p] as usize;
-    records::put_prefix(out, first, address[p], bits[p]);
-    put_routes(
-        router,
-        asn,
-        preference,
-        path,
-        origin,
-        mark,
-        med,
-        nid,
-        peer,
-        row,
-        count,
-        out,
-        first + snapshot::PREFIX_SIZE,
-    )
+    let count = tables.routes[p] as usize;
+    records::put_prefix(out, first, tables.address[p], tables.bits[p]);
+    put_routes(&tables.rows, row, count, out, first + snapshot::PREFIX_SIZE)
 }
 
 // The records of so many prefixes, each with its routes.
-fn put_prefixes(
-    n: usize,
-    address: &[u32],
-    bits: &[u32],
-    routes: &[u32],
-    router: &[u32],
-    asn: &[u32],
-    preference: &[u32],
-    path: &[u32],
-    origin: &[u32],
-    mark: &[u32],
-    med: &[u32],
-    nid: &[u32],
-    peer: &[u32],
-    out: &mut [u8],
-    first: usize,
-) -> usize
-    requires { (n ≤ most_prefixes) × (start routes.now n ≤ most_routes) × RoomPrefixes (prefix_tables address.now bits.now routes.now (columns router.now asn.now preference.now path.now origin.now mark.now med.now nid.now peer.now))
-        × Space (prefixes_bytes (table n (prefix_at (prefix_tables address.now bits.now routes.now (columns router.now asn.now preference.now path.now origin.now mark.now med.now nid.now peer.now))))) out.old first }
-    ensures { Puts (prefixes_bytes (table n (prefix_at (prefix_tables address.now bits.now routes.now (columns router.now asn.now preference.now path.now origin.now mark.now med.now nid.now peer.now))))) out.old first out.new result }
+fn put_prefixes(n: usize, tables: &Tables<'_>, out: &mut [u8], first: usize) -> usize
+    requires { (n ≤ most_prefixes) × (start tables.now.routes.now n ≤ most_routes) × RoomPrefixes (tables_of tables.now)
+        × Space (prefixes_bytes (table n (prefix_at (tables_of tables.now)))) out.old first }
+    ensures { Puts (prefixes_bytes (table n (prefix_at (tables_of tables.now)))) out.old first out.new result }
 {
     let mut at = first;
     let mut row = 0;
-    let mut p = 0;
-    while p < n {
-        let next = p + 1;
-        let end = row + routes[p] as usize;
-        at = put_prefix(
-            address, bits, routes, router, asn, preference, path, origin, mark, med, nid, peer, p,
-            row, out, at,
-        );
-        row = end;
-        p = next;
+    for (p, count) in tables.routes[..n].iter().enumerate() {
+        at = put_prefix(tables, p, row, out, at);
+        row += *count as usize;
     }
     at
 }
@@ -218,18 +121,14 @@ fn pair_count(n: u32) -> u32
     n * (n - 1)
 }
 
-// The bytes of the records of n routes, by their ASes.
-fn routes_size(n: usize, asn: &[u32]) -> usize
-    requires { (n ≤ most_routes) × (n ≤ length asn.now) }
-    ensures { (result ≡ routes_of asn.now n) × (result ≤ size four_byte_route_form * most_routes) }
+// The bytes of the records of routes with these ASes.
+fn routes_size(asn: &[u32]) -> usize
+    requires { length asn.now ≤ most_routes }
+    ensures { (result ≡ routes_of asn.now (length asn.now)) × (result ≤ size four_byte_route_form * most_routes) }
 {
-    let mut total = 0;
-    let mut k = 0;
-    while k < n {
-        total += snapshot::route_size(snapshot::four_byte(asn[k]));
-        k += 1;
-    }
-    total
+    asn.iter()
+        .map(|asn| snapshot::route_size(snapshot::four_byte(*asn)))
+        .sum()
 }
 
 // The bytes of the snapshot with these counts and ASes.
@@ -238,7 +137,7 @@ fn size(counts: Counts, asn: &[u32]) -> usize
     ensures { result ≡ size_of counts asn.now }
 {
     let pairs = pair_count(counts.routers);
-    let routes = routes_size(counts.routes as usize, asn);
+    let routes = routes_size(&asn[..counts.routes as usize]);
     snapshot::COUNT_SIZE
         + snapshot::ROUTER_SIZE * (counts.routers as usize)
         + snapshot::DISTANCE_SIZE * (pairs as usize)
@@ -257,84 +156,29 @@ fn record_count(counts: Counts) -> u32
 }
 
 // Writes the snapshot that is held, where the output has room for it.
-fn write_held(
-    counts: Counts,
-    ids: &[u32],
-    distances: &[u32],
-    address: &[u32],
-    bits: &[u32],
-    routes: &[u32],
-    router: &[u32],
-    asn: &[u32],
-    preference: &[u32],
-    path: &[u32],
-    origin: &[u32],
-    mark: &[u32],
-    med: &[u32],
-    nid: &[u32],
-    peer: &[u32],
-    out: &mut [u8],
-) -> Write
-    requires { T (none (short (tables ids.now distances.now address.now bits.now routes.now (columns router.now asn.now preference.now path.now origin.now mark.now med.now nid.now peer.now)))) × Holding counts (tables ids.now distances.now address.now bits.now routes.now (columns router.now asn.now preference.now path.now origin.now mark.now med.now nid.now peer.now)) }
-    ensures { Writes counts (tables ids.now distances.now address.now bits.now routes.now (columns router.now asn.now preference.now path.now origin.now mark.now med.now nid.now peer.now)) out.old (said result) out.new }
+fn write_held(counts: Counts, tables: &Tables<'_>, out: &mut [u8]) -> Result<usize, Refused>
+    requires { T (none (short (tables_of tables.now))) × Holding counts (tables_of tables.now) }
+    ensures { Writes counts (tables_of tables.now) out.old (said result) out.new }
 {
-    let n = size(counts, asn);
+    let n = size(counts, tables.rows.asn);
     if out.len() < n {
-        return Write::Refused(Refusal::Room, 0);
+        return Err(Refused {
+            refusal: Refusal::Room,
+            place: 0,
+        });
     }
     let records = record_count(counts);
-    let mut at = put_network(counts.routers as usize, ids, distances, out);
-    at = put_prefixes(
-        counts.prefixes as usize,
-        address,
-        bits,
-        routes,
-        router,
-        asn,
-        preference,
-        path,
-        origin,
-        mark,
-        med,
-        nid,
-        peer,
-        out,
-        at,
-    );
-    records::put_end(out, at, records);
-    Write::Written(at + snapshot::END_SIZE)
+    let prefixes = put_network(counts.routers as usize, tables, out);
+    let end = put_prefixes(counts.prefixes as usize, tables, out, prefixes);
+    records::put_end(out, end, records);
+    Ok(end + snapshot::END_SIZE)
 }
 
 // Writes the snapshot that counts and tables hold to the start of the output. Refused as ROOM where a table is shorter than its limit,
 // TABLE where they are not those of any snapshot, ROOM where the output is too short; then nothing is altered.
-pub fn write_snapshot(
-    counts: Counts,
-    ids: &[u32],
-    distances: &[u32],
-    address: &[u32],
-    bits: &[u32],
-    routes: &[u32],
-    router: &[u32],
-    asn: &[u32],
-    preference: &[u32],
-    path: &[u32],
-    origin: &[u32],
-    mark: &[u32],
-    med: &[u32],
-    nid: &[u32],
-    peer: &[u32],
-    out: &mut [u8],
-) -> Write
-    ensures { Writes counts (tables ids.now distances.now address.now bits.now routes.now (columns router.now asn.now preference.now path.now origin.now mark.now med.now nid.now peer.now)) out.old (said result) out.new }
+pub fn write_snapshot(counts: Counts, tables: &Tables<'_>, out: &mut [u8]) -> Result<usize, Refused>
+    ensures { Writes counts (tables_of tables.now) out.old (said result) out.new }
 {
-    match tables::examine(
-        counts, ids, distances, address, bits, routes, router, asn, preference, path, origin, mark,
-        med, nid, peer,
-    ) {
-        Verdict::Refused(r) => Write::Refused(r, 0),
-        Verdict::Good => write_held(
-            counts, ids, distances, address, bits, routes, router, asn, preference, path, origin,
-            mark, med, nid, peer, out,
-        ),
-    }
+    tables::examine(counts, tables).map_err(|refusal| Refused { refusal, place: 0 })?;
+    write_held(counts, tables, out)
 }

@@ -4,8 +4,8 @@ use Rattle.lines.proofs.put_address.Goals as goal
 
 pub returns : goal.returns
 returns c =
-    let p = c.put_number-first.ensures in
-    let q = c.put_number-second.ensures in
-    let s = c.put_number-third.ensures in
-    let t = c.put_number.ensures in
-    (puts_then (puts_then (puts_then p.0 q.0) s.0) t.0, omega (arith, p.1, q.1, s.1, t.1))
+    let p = c.put_number.ensures in
+    let q = c.put_number-2.ensures in
+    let s = c.put_number-3.ensures in
+    let t = c.put_number-4.ensures in
+    record { puts = puts_then (puts_then (puts_then p.puts q.puts) s.puts) t.puts; short = omega arith }

@@ -4,7 +4,6 @@ use Rattle.lines.proofs.put_heading.Goals as goal
 
 pub returns : goal.returns
 returns c =
-    let p = c.put_number-first.ensures in
-    let q = c.put_number-second.ensures in
-    let t = c.put_text.ensures in
-    (puts_then (puts_then p.0 q.0) t, omega (arith, p.1, q.1, t.place))
+    let p = c.put_number.ensures in
+    let q = c.put_number-2.ensures in
+    record { puts = puts_then (puts_then p.puts q.puts) c.put_text.ensures; short = omega arith }

@@ -4,6 +4,6 @@ use Rattle.page.proofs.put_block.Goals as goal
 
 pub returns : goal.returns
 returns c =
-    let p = c.put_prefix-head.ensures in
+    let p = c.put_prefix.ensures in
     let q = c.put_routers.ensures in
-    (puts_then p.0 q.0, omega (arith, c.requires.late_len.1, p.1, q.1))
+    record { puts = puts_then p.puts q.puts; short = omega (arith, c.requires.late_len.1) }

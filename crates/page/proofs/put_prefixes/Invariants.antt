@@ -1,13 +1,14 @@
-use Rattle.std.proofs.Common.{◌≡◌}
+use Rattle.std.proofs.Common.{◌≡◌, length}
 use Rattle.model.specs.Rows.{start}
-use Rattle.model.specs.Columns.{columns}
+use Rattle.snapshot.specs.Lent.{tables_of}
 use Rattle.text.specs.TextLaws.{Lined}
 use Rattle.page.specs.Page.{widest_block}
 use Rattle.page.specs.Lent.{lent_text}
 use Rattle.page.proofs.put_prefixes.Given as goal
 
--- the blocks of the prefixes below p are put, and the next begins behind their routes
-abbrev pub invariant-loop-p : goal.invariant-loop-p
-invariant-loop-p l =
-    Lined (lent_text l.routers l.ids l.distances l.address l.bits l.routes (columns l.router l.asn l.preference l.path l.origin l.med l.nid l.peer)) widest_block l.fn.out l.at l.prefixes l.p l.end l.out
-    × (l.first ≡ start l.routes l.p)
+-- the blocks of the prefixes that were given are put, and the next begins behind their routes
+abbrev pub invariant-loop-address : goal.invariant-loop-address
+invariant-loop-address l =
+    (goal.iterator-loop-address).can_next l.address-iterator × (goal.iterator-loop-address).is_finite l.address-iterator
+    × Lined (lent_text l.routers (tables_of l.tables)) widest_block l.fn.sink l.prefixes (length l.yielded) l.sink
+    × (l.first ≡ start l.tables.routes.now (length l.yielded))

@@ -1,4 +1,4 @@
-use Rattle.std.proofs.Common.{T, refl}
+use Rattle.std.proofs.Common.{T, ap, ◌∙◌, length, arith, rules}
 use Rattle.std.proofs.Math.Pow.{are_bytes}
 use Rattle.wire.specs.NumbersLaws.{slice_bytes}
 use Rattle.page.specs.Page.{room}
@@ -8,16 +8,17 @@ use Rattle.page.proofs.render.Goals as goal
 pub returns-then-out-lt-PAGE : goal.returns-then-out-lt-PAGE
 returns-then-out-lt-PAGE c = room c.if-out-lt-PAGE.true
 
--- ---- what is known once the snapshot is read
-
-pub put_read-end-requires : goal.put_read-end-requires
-put_read-end-requires c =
+pub put_read-requires : goal.put_read-requires
+put_read-requires c =
     let bytes : T (are_bytes c.args.input.now) = slice_bytes c.args.input.now (λ k. (c.type_inv.input k).fits) in
-    let d = c.read_snapshot-read.ensures in
-    ready c.args.input.now _ refl bytes _ _ _ d.0 d.1 c.if-out-lt-PAGE.false
+    let d = c.read_snapshot-read.ensures.read in
+    let long = ap length c.new-sink.ensures.bytes in
+    (c.new-sink.ensures.place, ready c.args.input.now _ c.lend-tables.ensures bytes _ _ _ d.0 (c.view.ensures ∙ d.1) (omega arith))
 
 pub returns : goal.returns
 returns c =
     let bytes : T (are_bytes c.args.input.now) = slice_bytes c.args.input.now (λ k. (c.type_inv.input k).fits) in
-    let d = c.read_snapshot-read.ensures in
-    rendered_text c.args.input.now c.args.out.now c.if-out-lt-PAGE.false (page_is c.args.input.now _ refl bytes c.read_snapshot-read.result _ d.0 d.1) c.put_read-end.ensures
+    let d = c.read_snapshot-read.ensures.read in
+    let s = c.new-sink.ensures in
+    let page = page_is c.args.input.now _ c.lend-tables.ensures bytes c.read_snapshot-read.result _ d.0 (c.view.ensures ∙ d.1) in
+    rendered_text c.args.input.now s.place s.bytes c.if-out-lt-PAGE.false page c.put_read.ensures (search rules)
