@@ -1,8 +1,7 @@
 -- Laws of the first place of a list whose entry passes: what std's `position` gives, told in the words of the definitions.
-use Rattle.std.specs.Prelude.{ℕ, zero, suc, ◌+◌, ◌≤◌, ◌<◌, ◌≡◌, refl, Bool, cond, List, [], ◌∷◌, Option, Some, None, unwrap_or, eqb, ltb, length, get_or, reverse, ◌-◌}
+use Rattle.std.specs.Prelude.{ℕ, zero, suc, ◌+◌, ◌≤◌, ◌<◌, ◌≡◌, refl, Bool, cond, List, [], ◌∷◌, Option, Some, None, unwrap_or, eqb, ltb, length, get_or}
 use Rattle.std.specs.List.{position_or_len}
 use Rattle.std.proofs.Common.{zero-le, arith, ap, ◌∙◌, ltb-false}
-use Rattle.std.proofs.lemmas.List.{length-reverse, get_or-reverse}
 use Rattle.model.specs.Rows.{keep, span}
 use Rattle.model.specs.Listing.{first_place, group_by}
 use Rattle.model.specs.Lent.{Inside}
@@ -48,10 +47,3 @@ place_group key k =
 -- a row of a list that is inside is inside, by whatever place it has
 pub inside_at : {n i q : ℕ} {rows : List ℕ} → Inside n rows → i < length rows → q ≡ get_or rows i q → q < n
 inside_at {i} {q} {rows} h l e = omega (arith, h.below i l, e, get_or_inside rows i q 0 l)
-
--- so are rows from the last to the first
-pub inside_reverse : {n : ℕ} {rows : List ℕ} → Inside n rows → Inside n (reverse rows)
-inside_reverse {n} {rows} h = record {
-  below = λ i l. let m : i < length rows = omega (arith, length-reverse rows) in
-      rw (get_or-reverse rows i 0 m) (h.below (length rows - 1 - i) (omega arith));
-}
