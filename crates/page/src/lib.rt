@@ -16,7 +16,7 @@ ghost use Rattle.page.specs.Lent.{Rows, decided_text, lent_text, blank, Blocks, 
 
 use refusal::{Refusal, Refused};
 use rows::Mesh;
-use snapshot::{Arrays, Counts, Tables};
+use snapshot::{Arrays, Counts, LentTables, Tables};
 use text::Sink;
 
 // Puts the line of every router.
@@ -98,7 +98,7 @@ fn put_read(read: Result<Counts, Refused>, sink: &mut Sink<'_>, tables: &Tables<
     ensures { Puts sink.old sink.new (lent_page read (tables_of tables.now)) }
 {
     match read {
-        Err(refused) => lines::put_refused(sink, refused),
+        Err(e) => lines::put_refused(sink, refusal::number(e.refusal), e.place),
         Ok(counts) => {
             let (routers, prefixes) = (counts.routers, counts.prefixes);
             lines::put_heading(sink, routers, prefixes);
@@ -122,7 +122,22 @@ pub fn render(input: &[u8], out: &mut [u8]) -> Result<usize, Refused>
         });
     }
     let mut arrays = Arrays::new();
-    let mut tables = arrays.lend();
+    let mut tables = LentTables {
+        ids: &mut arrays.ids,
+        distances: &mut arrays.distances,
+        address: &mut arrays.address,
+        bits: &mut arrays.bits,
+        routes: &mut arrays.routes,
+        router: &mut arrays.router,
+        asn: &mut arrays.asn,
+        preference: &mut arrays.preference,
+        path: &mut arrays.path,
+        origin: &mut arrays.origin,
+        mark: &mut arrays.mark,
+        med: &mut arrays.med,
+        nid: &mut arrays.nid,
+        peer: &mut arrays.peer,
+    };
     let read = reader::read_snapshot(input, &mut tables);
     let mut sink = Sink::new(out);
     put_read(read, &mut sink, &tables.view());

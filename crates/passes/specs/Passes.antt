@@ -8,6 +8,7 @@ use Rattle.tables.specs.Judging.{route_at}
 use Rattle.policy.specs.Policy.{Clause, Session, Policy}
 use Rattle.policy.specs.Rewriting.{preferred}
 use Rattle.policy.specs.Passing.{unruled, pass}
+use Rattle.snapshot.specs.declared.LentTables as lent_all
 use Rattle.passes.specs.declared.RewriteTables as lent
 
 -- the columns among lent tables,
@@ -31,6 +32,12 @@ pub record KeepsRewrite (a b : lent.RewriteTables) : Type 0 where
   pub origin : b.origin ≡ a.origin
   pub nid : b.nid ≡ a.nid
   pub peer : b.peer ≡ a.peer
+  pub preference : b.preference.ghost_name ≡ a.preference.ghost_name
+  pub mark : b.mark.ghost_name ≡ a.mark.ghost_name
+  pub med : b.med.ghost_name ≡ a.med.ghost_name
+
+-- what is lent to be rewritten is what was lent to be filled
+pub record LendsOn (a : lent_all.LentTables) (b : lent.RewriteTables) : Type 0 where
   pub preference : b.preference.ghost_name ≡ a.preference.ghost_name
   pub mark : b.mark.ghost_name ≡ a.mark.ghost_name
   pub med : b.med.ghost_name ≡ a.med.ghost_name

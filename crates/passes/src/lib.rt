@@ -8,7 +8,7 @@ ghost use Rattle.snapshot.specs.Limits.{most_prefixes, most_routes};
 ghost use Rattle.snapshot.specs.Lent.{tables_of, lent_tables};
 ghost use Rattle.policy.specs.Rewriting.{usual, with_rows};
 ghost use Rattle.clauses.specs.Walking.{clause_of, session_of, session_by, sessions_from};
-ghost use Rattle.passes.specs.Passes.{rewrite_columns, rewrite_tables, KeepsRewrite, entries, Owned, of_row, prefix_field, ruled_row, passed, passed_all, applied, Long, Told, Lent};
+ghost use Rattle.passes.specs.Passes.{rewrite_columns, rewrite_tables, LendsOn, KeepsRewrite, entries, Owned, of_row, prefix_field, ruled_row, passed, passed_all, applied, Long, Told, Lent};
 
 use clauses::{Announced, Clause, Named, Scope};
 use snapshot::{Columns, LentTables, Tables};
@@ -72,7 +72,7 @@ impl<'a> RewriteTables<'a> {
 
 // Tables that were lent to be filled are lent on to be rewritten.
 impl<'a> From<LentTables<'a>> for RewriteTables<'a> {
-    ghost from_gives = { λ lent tables. rewrite_tables tables ≡ lent_tables lent };
+    ghost from_gives = { λ lent tables. (rewrite_tables tables ≡ lent_tables lent) × LendsOn lent tables };
 
     fn from(lent: LentTables<'a>) -> RewriteTables<'a> {
         let LentTables {

@@ -6,7 +6,7 @@ ghost use Rattle.revise.specs.Revising.{said, revised_answer, revised_out};
 
 use passes::RewriteTables;
 use refusal::{Refusal, Refused};
-use snapshot::Arrays;
+use snapshot::{Arrays, LentTables};
 
 // Which of the two is refused, and how.
 #[derive(Clone, Copy, Debug, PartialEq, Eq)]
@@ -28,7 +28,22 @@ pub fn revise(snapshot: &[u8], policy: &[u8], out: &mut [u8]) -> Result<(), Revi
         }));
     }
     let mut arrays = Arrays::new();
-    let mut lent = arrays.lend();
+    let mut lent = LentTables {
+        ids: &mut arrays.ids,
+        distances: &mut arrays.distances,
+        address: &mut arrays.address,
+        bits: &mut arrays.bits,
+        routes: &mut arrays.routes,
+        router: &mut arrays.router,
+        asn: &mut arrays.asn,
+        preference: &mut arrays.preference,
+        path: &mut arrays.path,
+        origin: &mut arrays.origin,
+        mark: &mut arrays.mark,
+        med: &mut arrays.med,
+        nid: &mut arrays.nid,
+        peer: &mut arrays.peer,
+    };
     let counts = reader::read_snapshot(snapshot, &mut lent).map_err(RevisionError::Snapshot)?;
     let mut tables = RewriteTables::from(lent);
     apply::apply_policy(policy, counts, &mut tables).map_err(RevisionError::Policy)?;

@@ -2,9 +2,10 @@
 use Rattle.std.specs.Prelude.{◌≡◌, refl, Bool, false, List, [], ◌∷◌, ◌++◌, T, length}
 use Rattle.std.proofs.Common.{arith, sym, ap, ◌∙◌, append_assoc, length-append, ltb-false, le-ltb}
 use Rattle.model.specs.Decision.{Route}
-use Rattle.snapshot.specs.Ranges.{none}
+use Rattle.snapshot.specs.Ranges.{any_of, none}
 use Rattle.snapshot.proofs.RangesLaws.{none_at, none_cons}
 use Rattle.snapshot.specs.Tables.{Tables, prefix_tables, short, RoomPrefixes, Room, all_routes}
+use Rattle.snapshot.specs.Lent.{zeros}
 use Rattle.snapshot.specs.Format.{Prefix, routes_in}
 
 -- where no table is shorter than its limit, each has its room
@@ -31,6 +32,10 @@ has_room t enough =
         };
       };
     }
+
+-- no table of zeros is shorter than its limit
+pub zeros_have_room : {t : Tables} → t ≡ zeros → any_of (short t) ≡ false
+zeros_have_room e = ap (λ (t : Tables). any_of (short t)) e
 
 abbrev AllFalse : List Bool → Type 0
 AllFalse [] = Unit {0}

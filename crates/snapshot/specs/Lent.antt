@@ -1,9 +1,11 @@
 -- The code's lent tables as those of the definitions.
-use Rattle.std.specs.Prelude.{◌≡◌}
+use Rattle.std.specs.Prelude.{◌≡◌, replicate}
 use Rattle.snapshot.specs.declared.Columns as shown
 use Rattle.snapshot.specs.declared.Tables as shown_tables
 use Rattle.snapshot.specs.declared.LentColumns as lent
 use Rattle.snapshot.specs.declared.LentTables as lent_all
+use Rattle.snapshot.specs.declared.Arrays as owned
+use Rattle.snapshot.specs.Limits.{most_routers, room_distances, most_prefixes, most_routes}
 use Rattle.snapshot.specs.Tables.{Columns, Tables, columns, tables}
 
 -- the columns that a value of the code's struct shows
@@ -23,6 +25,20 @@ abbrev pub lent_tables : lent_all.LentTables → Tables
 lent_tables t =
     tables t.ids.now t.distances.now t.address.now t.bits.now t.routes.now
     (columns t.router.now t.asn.now t.preference.now t.path.now t.origin.now t.mark.now t.med.now t.nid.now t.peer.now)
+
+-- what stands in room of one's own
+abbrev pub owned_tables : owned.Arrays → Tables
+owned_tables a =
+    tables a.ids a.distances a.address a.bits a.routes
+    (columns a.router a.asn a.preference a.path a.origin a.mark a.med a.nid a.peer)
+
+-- tables of zeros, each as long as its limit
+abbrev pub zeros : Tables
+zeros =
+    let field = replicate most_prefixes 0 in
+    let column = replicate most_routes 0 in
+    tables (replicate most_routers 0) (replicate room_distances 0) field field field
+    (columns column column column column column column column column column)
 
 -- the columns lent are the same as before, whatever stands in them
 pub record KeepsColumns (a b : lent.LentColumns) : Type 0 where

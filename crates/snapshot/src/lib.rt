@@ -7,7 +7,7 @@ ghost use Rattle.snapshot.specs.Ranges.{any_of, count_tests, id_tests, distance_
 ghost use Rattle.snapshot.specs.Records.{four_byte, route_form_by, route_forms, stands, size};
 ghost use Rattle.snapshot.specs.Plain.{route_is};
 ghost use Rattle.snapshot.specs.Tables.{short};
-ghost use Rattle.snapshot.specs.Lent.{tables_of, lent_tables};
+ghost use Rattle.snapshot.specs.Lent.{tables_of, lent_tables, owned_tables, zeros};
 
 // The limits, with the names of specs/Limits.antt.
 pub const MOST_ROUTERS: u32 = 64;
@@ -277,28 +277,31 @@ impl<'a> Tables<'a> {
     }
 }
 
-// Room for the tables of a snapshot, each as long as its limit.
+// Room for the tables of a snapshot, each as long as its limit. Who reads into it lends each field by itself: of loans that a method hands
+// out together in a struct, the caller would not learn what becomes of the room.
 #[derive(Drop)]
 pub struct Arrays {
-    ids: [u32; MOST_ROUTERS as usize],
-    distances: [u32; ROOM_DISTANCES],
-    address: [u32; MOST_PREFIXES as usize],
-    bits: [u32; MOST_PREFIXES as usize],
-    routes: [u32; MOST_PREFIXES as usize],
-    router: [u32; MOST_ROUTES as usize],
-    asn: [u32; MOST_ROUTES as usize],
-    preference: [u32; MOST_ROUTES as usize],
-    path: [u32; MOST_ROUTES as usize],
-    origin: [u32; MOST_ROUTES as usize],
-    mark: [u32; MOST_ROUTES as usize],
-    med: [u32; MOST_ROUTES as usize],
-    nid: [u32; MOST_ROUTES as usize],
-    peer: [u32; MOST_ROUTES as usize],
+    pub ids: [u32; MOST_ROUTERS as usize],
+    pub distances: [u32; ROOM_DISTANCES],
+    pub address: [u32; MOST_PREFIXES as usize],
+    pub bits: [u32; MOST_PREFIXES as usize],
+    pub routes: [u32; MOST_PREFIXES as usize],
+    pub router: [u32; MOST_ROUTES as usize],
+    pub asn: [u32; MOST_ROUTES as usize],
+    pub preference: [u32; MOST_ROUTES as usize],
+    pub path: [u32; MOST_ROUTES as usize],
+    pub origin: [u32; MOST_ROUTES as usize],
+    pub mark: [u32; MOST_ROUTES as usize],
+    pub med: [u32; MOST_ROUTES as usize],
+    pub nid: [u32; MOST_ROUTES as usize],
+    pub peer: [u32; MOST_ROUTES as usize],
 }
 
 impl Arrays {
-    // Room that is to be filled: what stands in it does not matter.
-    pub fn new() -> Arrays {
+    // Room in which nothing stands but zeros.
+    pub fn new() -> Arrays
+        ensures { owned_tables result ≡ zeros }
+    {
         Arrays {
             ids: [0; MOST_ROUTERS as usize],
             distances: [0; ROOM_DISTANCES],
@@ -314,44 +317,6 @@ impl Arrays {
             med: [0; MOST_ROUTES as usize],
             nid: [0; MOST_ROUTES as usize],
             peer: [0; MOST_ROUTES as usize],
-        }
-    }
-
-    // The tables, none of which lacks room.
-    pub fn lend(&mut self) -> LentTables<'_>
-        ensures { any_of (short (lent_tables result)) ≡ false }
-    {
-        let Arrays {
-            ids,
-            distances,
-            address,
-            bits,
-            routes,
-            router,
-            asn,
-            preference,
-            path,
-            origin,
-            mark,
-            med,
-            nid,
-            peer,
-        } = self;
-        LentTables {
-            ids,
-            distances,
-            address,
-            bits,
-            routes,
-            router,
-            asn,
-            preference,
-            path,
-            origin,
-            mark,
-            med,
-            nid,
-            peer,
         }
     }
 }
