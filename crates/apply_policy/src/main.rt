@@ -28,7 +28,12 @@ fn say_refused(rt: &HostRuntime, what: &[u8], refused: Refused)
 {
     let mut line = [0u8; LINE];
     let mut sink = Sink::new(&mut line);
-    lines::put_refusal(&mut sink, what, refused);
+    lines::put_refusal(
+        &mut sink,
+        what,
+        refusal::number(refused.refusal),
+        refused.place,
+    );
     let _ = rt.stderr().write_all(sink.text());
 }
 

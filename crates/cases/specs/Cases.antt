@@ -1,11 +1,12 @@
 -- What is found of a file, and the line that says it.
-use Rattle.std.specs.Prelude.{ℕ, Bool, true, cond, List, ◌++◌, Result, Ok, Err}
+use Rattle.std.specs.Prelude.{ℕ, Bool, true, cond, List, ◌++◌, take, Result, Ok, Err}
 use Rattle.refusal.specs.declared.Refused.{Refused}
 use Rattle.refusal.specs.Numbers.{number_of}
 use Rattle.snapshot.specs.declared.Counts.{Counts}
 use Rattle.snapshot.specs.Ranges.{any_of}
 use Rattle.snapshot.specs.Reading.{reading}
 use Rattle.snapshot.specs.Tables.{Tables, short}
+use Rattle.snapshot.specs.Lent.{zeros}
 use Rattle.scan.specs.Scan.{told}
 use Rattle.reader.specs.ReadLaws.{no_room_at}
 use Rattle.text.specs.Text.{ascii, decimal}
@@ -19,6 +20,10 @@ finding (Err e) = Err e
 -- what is found of bytes, read into these tables: ROOM first
 abbrev pub found : List ℕ → Tables → Result (Counts × Bool) Refused
 found bs t = cond (any_of (short t)) (Err no_room_at) (finding (told (reading bs)))
+
+-- tables of zeros, with room for so many peers
+abbrev pub room_for : ℕ → Tables
+room_for peers = record zeros { rows = record zeros.rows { peer = take peers zeros.rows.peer } }
 
 -- whether the bytes are the same
 abbrev pub likeness : Bool → List ℕ

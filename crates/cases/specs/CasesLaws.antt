@@ -1,12 +1,13 @@
 -- What is read is written as the same bytes again: of the calls that the program makes.
-use Rattle.std.specs.Prelude.{ℕ, ◌≤◌, ◌≡◌, refl, Bool, true, false, cond, List, length, take, T, Result, Ok, Err}
-use Rattle.std.proofs.Common.{arith, sym, ap, ◌∙◌}
+use Rattle.std.specs.Prelude.{ℕ, ◌≤◌, ◌≡◌, refl, Bool, true, false, cond, List, [], ◌∷◌, length, take, T, ltb, replicate, Result, Ok, Err}
+use Rattle.std.proofs.Common.{arith, sym, ap, ◌∙◌, length-take-le}
 use Rattle.std.proofs.lemmas.Bool.{false≢true}
 use Rattle.std.proofs.Math.Pow.{are_bytes}
 use Rattle.std.proofs.lemmas.List.Edits.{sets}
 use Rattle.refusal.specs.declared.Refused.{Refused}
 use Rattle.model.proofs.RowLaws.{by}
 use Rattle.snapshot.specs.declared.Counts.{Counts}
+use Rattle.snapshot.specs.Limits.{most_routes}
 use Rattle.snapshot.specs.Ranges.{any_of}
 use Rattle.snapshot.specs.Format.{encode}
 use Rattle.snapshot.specs.Reading.{reading}
@@ -22,7 +23,7 @@ use Rattle.writer.specs.AnswerLaws.{written_back}
 use Rattle.writer.specs.Theorems.{writes_one}
 use Rattle.roundtrip.specs.Trips.{Written}
 use Rattle.roundtrip.specs.TripLaws.{was_written}
-use Rattle.cases.specs.Cases.{finding, found}
+use Rattle.cases.specs.Cases.{finding, found, room_for}
 
 -- ---- written and compared
 
@@ -73,3 +74,16 @@ module _ (bs : List ℕ) (t : Tables) where
       → (read_said answer ≡ read_answer bs t) × (u ≡ read_tables bs t) → Decides (Written bs c u) same → Ok (c, same) ≡ found bs t
   found_same {answer} {c} {u} {same} bytes is (a, f) d =
       ap (λ (b : Bool). Ok (c, b)) (by same (λ yes. yes) (λ no. absurd (d.no no (was_written bs t bytes is a f)))) ∙ ap finding (sym is) ∙ found_as answer a
+
+-- ---- with tables of its own
+
+-- ROOM exactly where there is no room for all peers
+pub found_by_peers : (bs : List ℕ) (peers : ℕ) → peers ≤ most_routes
+    → found bs (room_for peers) ≡ cond (ltb peers most_routes) (Err no_room_at) (finding (told (reading bs)))
+found_by_peers bs peers few =
+    ap (λ (b : Bool). cond b (Err no_room_at) (finding (told (reading bs))))
+    (ap (λ (n : ℕ). any_of (ltb n most_routes ∷ [])) (length-take-le peers (replicate most_routes 0) few) ∙ last (ltb peers most_routes))
+  where
+    last : (b : Bool) → any_of (b ∷ []) ≡ b
+    last true = refl
+    last false = refl

@@ -13,7 +13,7 @@ ghost use Rattle.tables.specs.Judging.{Decides};
 ghost use Rattle.text.specs.Text.{ascii, HasRoom, PutsAtMost};
 ghost use Rattle.lines.specs.Lines.{widest};
 ghost use Rattle.roundtrip.specs.Trips.{Written};
-ghost use Rattle.cases.specs.Cases.{found, accepted_line, finding_line, widest_line};
+ghost use Rattle.cases.specs.Cases.{found, room_for, accepted_line, finding_line, widest_line};
 
 use refusal::Refused;
 use snapshot::{Arrays, Counts, LentTables, Tables};
@@ -76,8 +76,33 @@ fn put_line(sink: &mut Sink<'_>, name: &[u8], input: &[u8], tables: &mut LentTab
     sink.put_text(b" ");
     match examined(input, tables) {
         Ok((counts, same)) => put_accepted(sink, counts, same),
-        Err(refused) => lines::put_refused(sink, refused),
+        Err(e) => lines::put_refused(sink, refusal::number(e.refusal), e.place),
     }
+}
+
+// The same, with tables of its own in which there is room for so many peers.
+fn put_case(sink: &mut Sink<'_>, name: &[u8], input: &[u8], peers: usize)
+    requires { HasRoom sink.old (length name.now + 1 + widest) × (length input.now ≤ suc longest) × (peers ≤ most_routes) }
+    ensures { PutsAtMost (length name.now + 1 + widest) sink.old sink.new (name.now ++ ascii " " ++ finding_line (found input.now (room_for peers))) }
+{
+    let mut arrays = Arrays::new();
+    let mut tables = LentTables {
+        ids: &mut arrays.ids,
+        distances: &mut arrays.distances,
+        address: &mut arrays.address,
+        bits: &mut arrays.bits,
+        routes: &mut arrays.routes,
+        router: &mut arrays.router,
+        asn: &mut arrays.asn,
+        preference: &mut arrays.preference,
+        path: &mut arrays.path,
+        origin: &mut arrays.origin,
+        mark: &mut arrays.mark,
+        med: &mut arrays.med,
+        nid: &mut arrays.nid,
+        peer: &mut arrays.peer[..peers],
+    };
+    put_line(sink, name, input, &mut tables);
 }
 
 // Reads a file, with room for so many peers, and prints its line.
@@ -93,14 +118,9 @@ fn run(rt: &HostRuntime, name: &str, room: usize)
     };
     let mut input = [0u8; INPUT];
     let n = files::read_full(&mut file, &mut input);
-    let mut arrays = Arrays::new();
-    let whole = arrays.lend();
-    let peer = whole.peer;
-    let (peer, _) = peer.split_at_mut(room);
-    let mut tables = LentTables { peer, ..whole };
     let mut out = [0u8; LINE];
     let mut sink = Sink::new(&mut out);
-    put_line(&mut sink, name.as_bytes(), &input[..n], &mut tables);
+    put_case(&mut sink, name.as_bytes(), &input[..n], room);
     let _ = rt.write_all(sink.text());
 }
 

@@ -2,13 +2,11 @@
 #![tactic(auto)]
 
 ghost use Rattle.std.specs.Prelude.{◌≡◌, ◌⊎◌, ◌++◌, ◌+◌, ◌<◌, length};
-ghost use Rattle.refusal.specs.Numbers.{number_of};
 ghost use Rattle.model.specs.Rows.{column};
 ghost use Rattle.model.specs.Decision.{none};
 ghost use Rattle.text.specs.Text.{ascii, decimal, HasRoom, PutsAtMost};
 ghost use Rattle.lines.specs.Lines.{widest, heading_line, refusal_line, refused_line, dotted, state, prefix_line, entry, or_entry, router_line};
 
-use refusal::Refused;
 use rows::NONE;
 use text::Sink;
 
@@ -41,21 +39,21 @@ fn put_place(sink: &mut Sink<'_>, place: usize)
 }
 
 // Puts the line of a refusal behind a word that says so.
-pub fn put_refusal(sink: &mut Sink<'_>, word: &[u8], refused: Refused)
+pub fn put_refusal(sink: &mut Sink<'_>, word: &[u8], number: u32, place: usize)
     requires { HasRoom sink.old (length word.now + 32) }
-    ensures { PutsAtMost (length word.now + 32) sink.old sink.new (refusal_line word.now (number_of refused.refusal) refused.place) }
+    ensures { PutsAtMost (length word.now + 32) sink.old sink.new (refusal_line word.now number place) }
 {
-    put_number(sink, word, refusal::number(refused.refusal));
-    put_place(sink, refused.place);
+    put_number(sink, word, number);
+    put_place(sink, place);
     sink.put_text(b"\n");
 }
 
 // Puts the line of a refused snapshot.
-pub fn put_refused(sink: &mut Sink<'_>, refused: Refused)
+pub fn put_refused(sink: &mut Sink<'_>, number: u32, place: usize)
     requires { HasRoom sink.old widest }
-    ensures { PutsAtMost widest sink.old sink.new (refused_line (number_of refused.refusal) refused.place) }
+    ensures { PutsAtMost widest sink.old sink.new (refused_line number place) }
 {
-    put_refusal(sink, b"refused ", refused);
+    put_refusal(sink, b"refused ", number, place);
 }
 
 // Puts an address.

@@ -6,4 +6,4 @@ pub returns : goal.returns
 returns c =
     let p = c.put_number.ensures in
     let q = c.put_place.ensures in
-    record { puts = rw (← c.number.ensures) (puts_then (puts_then p.puts q.puts) c.put_text.ensures); short = omega arith }
+    record { puts = puts_then (puts_then p.puts q.puts) c.put_text.ensures; short = omega arith }
