@@ -12,9 +12,9 @@
 #include <sys/mman.h>
 
 /* The most stack that a forecast may take, that one may take which reading refuses, and that a policy may take, in
- * bytes. Within the second there is no room for a copy of the ids. */
+ * bytes. Within the second there is no room for a copy of the ids, which takes as much by itself. */
 #define STACK_BOUND (32 * 1024)
-#define READING_STACK_BOUND (28 * 1024 + 512)
+#define READING_STACK_BOUND 256
 #define POLICY_STACK_BOUND (60 * 1024)
 
 #define STACK_SIZE (512 * 1024)
