@@ -2,7 +2,7 @@
 // of its ranges and of the tables' room, which reading and the judging of tables share.
 #![tactic(auto)]
 
-ghost use Rattle.std.specs.Prelude.{◌≡◌, false, not};
+ghost use Rattle.std.specs.Prelude.{◌≡◌, not};
 ghost use Rattle.snapshot.specs.Ranges.{any_of, count_tests, id_tests, distance_tests, prefix_tests, asn_tests, route_tests, rises};
 ghost use Rattle.snapshot.specs.Records.{four_byte, route_form_by, route_forms, stands, size};
 ghost use Rattle.snapshot.specs.Plain.{route_is};
