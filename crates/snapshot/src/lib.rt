@@ -2,7 +2,7 @@
 // of its ranges and of the tables' room, which reading and the judging of tables share.
 #![tactic(auto)]
 
-ghost use Rattle.std.specs.Prelude.{◌≡◌, not};
+ghost use Rattle.std.specs.Prelude.{◌≡◌, false, not};
 ghost use Rattle.snapshot.specs.Ranges.{any_of, count_tests, id_tests, distance_tests, prefix_tests, asn_tests, route_tests, rises};
 ghost use Rattle.snapshot.specs.Records.{four_byte, route_form_by, route_forms, stands, size};
 ghost use Rattle.snapshot.specs.Plain.{route_is};
@@ -277,8 +277,8 @@ impl<'a> Tables<'a> {
     }
 }
 
-// Room for the tables of a snapshot, each as long as its limit. Who reads into it lends each field by itself: of loans that a method hands
-// out together in a struct, the caller would not learn what becomes of the room.
+// Room for the tables of a snapshot, each as long as its limit. Who has to know what becomes of it lends each field by itself: of loans that
+// a method hands out together in a struct, as `lend` does, the caller does not learn what they leave.
 #[derive(Drop)]
 pub struct Arrays {
     pub ids: [u32; MOST_ROUTERS as usize],
@@ -318,5 +318,95 @@ impl Arrays {
             nid: [0; MOST_ROUTES as usize],
             peer: [0; MOST_ROUTES as usize],
         }
+    }
+
+    // The tables as they stand in this room, none of which lacks room.
+    pub fn lend(&mut self) -> LentTables<'_>
+        ensures room { any_of (short (lent_tables result)) ≡ false }
+        ensures shown { lent_tables result ≡ owned_tables self.old }
+    {
+        let Arrays {
+            ids,
+            distances,
+            address,
+            bits,
+            routes,
+            router,
+            asn,
+            preference,
+            path,
+            origin,
+            mark,
+            med,
+            nid,
+            peer,
+        } = self;
+        LentTables {
+            ids,
+            distances,
+            address,
+            bits,
+            routes,
+            router,
+            asn,
+            preference,
+            path,
+            origin,
+            mark,
+            med,
+            nid,
+            peer,
+        }
+    }
+}
+
+#[cfg(test)]
+mod tests {
+    use super::*;
+    use std::test::Fail;
+
+    // Whether a number stands in each entry of a table; where not, the number says which table is another.
+    fn all_of(table: &[u32], n: u32) -> Result<(), u32> {
+        if table.iter().all(|&k| k == n) {
+            Ok(())
+        } else {
+            Err(n)
+        }
+    }
+
+    // What is written into the tables that are lent stands in the room once the loans are over, each in its own field: no promise can say it.
+    #[test]
+    fn what_is_lent_fills_the_room() -> Result<(), Fail> {
+        let mut arrays = Arrays::new();
+        let lent = arrays.lend();
+        lent.ids.fill(1);
+        lent.distances.fill(2);
+        lent.address.fill(3);
+        lent.bits.fill(4);
+        lent.routes.fill(5);
+        lent.router.fill(6);
+        lent.asn.fill(7);
+        lent.preference.fill(8);
+        lent.path.fill(9);
+        lent.origin.fill(10);
+        lent.mark.fill(11);
+        lent.med.fill(12);
+        lent.nid.fill(13);
+        lent.peer.fill(14);
+        all_of(&arrays.ids, 1)?;
+        all_of(&arrays.distances, 2)?;
+        all_of(&arrays.address, 3)?;
+        all_of(&arrays.bits, 4)?;
+        all_of(&arrays.routes, 5)?;
+        all_of(&arrays.router, 6)?;
+        all_of(&arrays.asn, 7)?;
+        all_of(&arrays.preference, 8)?;
+        all_of(&arrays.path, 9)?;
+        all_of(&arrays.origin, 10)?;
+        all_of(&arrays.mark, 11)?;
+        all_of(&arrays.med, 12)?;
+        all_of(&arrays.nid, 13)?;
+        all_of(&arrays.peer, 14)?;
+        Ok(())
     }
 }
