@@ -365,7 +365,7 @@ mod tests {
     use super::*;
     use std::test::Fail;
 
-    // Whether a number stands in each entry of a table; where not, the number says which table is another.
+    // Whether a number stands in each entry of a table; where it does not, the number is the error, so that a failure names the table.
     fn all_of(table: &[u32], n: u32) -> Result<(), u32> {
         if table.iter().all(|&k| k == n) {
             Ok(())
